@@ -1,0 +1,20 @@
+//! The plain types that every part of emhdb speaks of: names, ids, paths and the module table as lists.
+#![tactic(auto)]
+
+mod ids;
+mod list;
+mod memory;
+mod name;
+mod path;
+mod placement;
+mod plain;
+mod try_copy;
+
+pub use ids::{BlockKey, InstId, ModId, NetId, OccKey};
+pub use list::List;
+pub use memory::NoMemory;
+pub use name::{Name, NameFault};
+pub use path::Path;
+pub use placement::{Orient, Placement, Status};
+pub use plain::{Conn, Dir, PInst, PModule, PNet, PPort, Plain, Range, Src};
+pub use try_copy::TryCopy;
