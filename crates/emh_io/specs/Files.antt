@@ -1,0 +1,10 @@
+use Rattle.std.specs.Prelude.{ℕ, List, [], ◌∷◌, Option, Some, None, if◌then◌else◌, bytes_eq}
+
+-- what a shelf holds: files, each a name and its bytes
+abbrev pub Files : Type 0
+Files = List (List ℕ × List ℕ)
+
+-- the bytes of the file of that name
+abbrev pub held : Files → List ℕ → Option (List ℕ)
+held [] name = None
+held (file ∷ files) name = if bytes_eq file.0 name then Some file.1 else held files name
