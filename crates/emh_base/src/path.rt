@@ -9,7 +9,7 @@ use std::marker::Model;
 
 /// An occurrence's place in the unfolding: the instances that lead to it from the top. The top has the empty path.
 /// Up to eight steps stand in place and take no memory.
-#[derive(Drop)]
+#[derive(Debug, Drop)]
 pub struct Path {
     steps: SmallVec<InstId, 8>,
 }

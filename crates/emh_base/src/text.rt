@@ -1,0 +1,77 @@
+ghost use Rattle.std.specs.Prelude.{◌≡◌, ℕ, ◌+◌, ◌^◌, ◌<◌, ◌==◌, ◌||◌, ◌++◌, OnOk};
+ghost use Rattle.std.specs.Fmt.{decimal};
+ghost use Rattle.emh_base.specs.Text.{is_special, marked, spell, index_text};
+
+use crate::list::List;
+use crate::memory::NoMemory;
+use crate::name::Name;
+use crate::plain::Range;
+
+/// Puts the spelled text of a name last: a `\` stands before each `/`, `[`, `]`, `.` and `\`, and before a `=` that is
+/// its first byte. This project's own. After want of memory a part of the text may stand there.
+pub fn push_spelled(out: &mut List<u8>, name: &Name) -> Result<(), NoMemory>
+    ensures { OnOk result (out.new ≡ out.old ++ spell name.now) }
+{
+    match name.as_bytes() {
+        [] => Ok(()),
+        [first, others @ ..] => {
+            push_marked(out, is_special(*first) || *first == b'=', *first)?;
+            for byte in others {
+                push_marked(out, is_special(*byte), *byte)?;
+            }
+            Ok(())
+        }
+    }
+}
+
+/// Puts the index of a bit in brackets last, by its offset from the left of its net's range; nothing without a range.
+pub fn push_index(out: &mut List<u8>, range: Option<Range>, offset: u16) -> Result<(), NoMemory>
+    ensures { OnOk result (out.new ≡ out.old ++ index_text range offset) }
+{
+    match range {
+        None => Ok(()),
+        Some(range) => {
+            out.push(b'[')?;
+            push_number(out, range.index_at(offset))?;
+            out.push(b']')
+        }
+    }
+}
+
+impl Range {
+    ghost use Rattle.emh_base.specs.Text.{index_of};
+
+    /// The index of the bit at an offset from the left.
+    fn index_at(self, offset: u16) -> u64
+        ensures { result ≡ index_of self offset }
+    {
+        if self.right < self.left {
+            u64::from(self.left.saturating_sub(u32::from(offset)))
+        } else {
+            u64::from(self.left) + u64::from(offset)
+        }
+    }
+}
+
+fn is_special(byte: u8) -> bool
+    ensures { result ≡ is_special byte }
+{
+    byte == b'/' || byte == b'[' || byte == b']' || byte == b'.' || byte == b'\\'
+}
+
+fn push_marked(out: &mut List<u8>, mark: bool, byte: u8) -> Result<(), NoMemory>
+    ensures { OnOk result (out.new ≡ out.old ++ marked mark byte) }
+{
+    if mark {
+        out.push(b'\\')?;
+    }
+    out.push(byte)
+}
+
+/// Puts a number last, in decimal without leading zeros.
+pub fn push_number(out: &mut List<u8>, number: u64) -> Result<(), NoMemory>
+    ensures { OnOk result (out.new ≡ out.old ++ decimal number) }
+{
+    let digits = number.to_string(out.alloc())?;
+    out.extend(digits.as_bytes())
+}

@@ -1,0 +1,6 @@
+pub mod Lookup
+pub mod Unfolding
+pub mod Root
+pub mod Sound
+pub mod Limits
+pub mod TwoLevel

@@ -1,0 +1,34 @@
+use Rattle.std.specs.Prelude.{ℕ, ◌==◌, ◌+◌, ◌-◌, List, [], Option, Some, None, find}
+use Rattle.emh_base.specs.declared.ids.ModId.{ModId}
+use Rattle.emh_base.specs.declared.ids.NetId.{NetId}
+use Rattle.emh_base.specs.declared.ids.InstId.{InstId}
+use Rattle.emh_base.specs.declared.plain.Range.{Range}
+use Rattle.emh_base.specs.declared.plain.PNet.{PNet}
+use Rattle.emh_base.specs.declared.plain.PInst.{PInst}
+use Rattle.emh_base.specs.declared.plain.PModule.{PModule}
+use Rattle.emh_base.specs.declared.plain.Plain.{Plain}
+
+-- what an id names in its table
+
+abbrev pub module_of : Plain → ModId → Option PModule
+module_of M id = find (λ m. m.id.0 == id.0) M.modules
+
+abbrev pub net_of : PModule → NetId → Option PNet
+net_of m id = find (λ net. net.id.0 == id.0) m.nets
+
+abbrev pub inst_of : PModule → InstId → Option PInst
+inst_of m id = find (λ inst. inst.id.0 == id.0) m.insts
+
+-- the instances of a module, none where it isn't there
+abbrev pub insts_of : Option PModule → List PInst
+insts_of None = []
+insts_of (Some m) = m.insts
+
+-- a net without a range has one bit, else one for each index from the one end to the other
+abbrev pub width : Option Range → ℕ
+width None = 1
+width (Some range) = (range.left - range.right) + (range.right - range.left) + 1
+
+abbrev pub width_of : Option PNet → ℕ
+width_of None = 0
+width_of (Some net) = width net.range

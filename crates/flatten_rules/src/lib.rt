@@ -1,0 +1,9 @@
+//! The definitions that every part of emhdb is measured by: the unfolding of a module table, the roots of its net bits,
+//! its leaf pins, its limits.
+#![tactic(auto)]
+
+mod laws;
+mod root;
+
+pub use laws::two_level_unfolds;
+pub use root::Root;
