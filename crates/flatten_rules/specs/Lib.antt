@@ -3,4 +3,5 @@ pub mod Unfolding
 pub mod Root
 pub mod Sound
 pub mod Limits
+pub mod Design
 pub mod TwoLevel

@@ -3,7 +3,9 @@
 #![tactic(auto)]
 
 mod laws;
+mod numbered;
 mod root;
 
 pub use laws::two_level_unfolds;
+pub use numbered::{Numbered, place_of};
 pub use root::Root;

@@ -1,0 +1,59 @@
+ghost use Rattle.std.specs.Prelude.{◌≡◌, ℕ, ◌==◌, ◌<◌, ◌≤◌, true, false, nat_lt, length, AllPairs, position};
+ghost use Rattle.std.specs.List.Sorted.{IsPartitionPoint};
+
+use emh_base::{PInst, PModule, PNet};
+
+/// An item of a table that keeps its items in rising order of their numbers.
+pub trait Numbered {
+    ghost number_of: { Self → ℕ };
+
+    fn number(&self) -> u32
+        ensures { result ≡ number_of self.now };
+}
+
+impl Numbered for PModule {
+    ghost number_of = { λ m. m.id.0 };
+
+    fn number(&self) -> u32 {
+        self.id.0
+    }
+}
+
+impl Numbered for PNet {
+    ghost number_of = { λ net. net.id.0 };
+
+    fn number(&self) -> u32 {
+        self.id.0
+    }
+}
+
+impl Numbered for PInst {
+    ghost number_of = { λ inst. inst.id.0 };
+
+    fn number(&self) -> u32 {
+        self.id.0
+    }
+}
+
+/// The place of the item with a number, by binary search.
+pub fn place_of<T: Numbered>(items: &[T], number: u32) -> Option<usize>
+    requires { AllPairs (λ a b. T.number_of a < T.number_of b) items.now }
+    ensures { result ≡ position (λ item. T.number_of item == number) items.now }
+{
+    let place = first_from(items, number);
+    if place < items.len() && items[place].number() == number {
+        Some(place)
+    } else {
+        None
+    }
+}
+
+/// The place of the first item that has no lower number.
+fn first_from<T: Numbered>(items: &[T], number: u32) -> usize
+    requires { AllPairs (λ a b. T.number_of a < T.number_of b) items.now }
+    ensures within { result ≤ length items.now }
+    ensures parts { IsPartitionPoint (λ item. nat_lt (T.number_of item) number ≡ true)
+        (λ item. nat_lt (T.number_of item) number ≡ false) items.now result }
+{
+    items.partition_point(|item| item.number() < number)
+}
