@@ -9,7 +9,7 @@ use std::marker::Model;
 /// [`Words::new`] takes:
 ///
 /// ```
-/// const TABLE: &[&[u8]] = words![b"load", b"report", b"write"];
+/// const TABLE: &[&[u8]] = words![b"load" b"report" b"write"];
 /// let commands: Words<3> = Words::new(TABLE);
 /// ```
 #[derive(Drop)]
@@ -63,7 +63,7 @@ impl<const N: usize> Words<N> {
 /// The words of a table, lowest first: the value of a constant in a function's body, which [`Words::new`] takes.
 #[macro_export]
 macro_rules! words {
-    ($($word:literal),* $(,)?) => {
+    ($($word:literal)*) => {
         &[$($word),*]
     };
 }
