@@ -36,7 +36,7 @@ position-absent n number xs i parts rise here = position-none (λ x. n x == numb
     ⊎_elim
     (λ below. let low = parts.0 k d (omega arith) below in grind (arith, nat_tests))
     (λ above. ⊎_elim
-        (λ over. let high = parts.1 i d (omega arith) (omega arith) in let more = rise i k d over within in grind (arith, nat_tests))
-        (λ under. let same : k ≡ i = omega arith in rw same (let other = here (omega arith) d in grind (arith, nat_tests)))
-        (cases_lt i k))
+    (λ over. let high = parts.1 i d (omega arith) (omega arith) in let more = rise i k d over within in grind (arith, nat_tests))
+    (λ under. let same : k ≡ i = omega arith in rw same (let other = here (omega arith) d in grind (arith, nat_tests)))
+    (cases_lt i k))
     (cases_lt k i))
