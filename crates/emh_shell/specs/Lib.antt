@@ -5,3 +5,4 @@ pub mod Load
 pub mod Play
 pub mod Causes
 pub mod TwoLevel
+pub mod Way

@@ -5,7 +5,9 @@ mod command;
 mod design;
 mod laws;
 mod reply;
+mod root_text;
 mod stand;
+mod way;
 
 pub use command::Command;
 pub use design::Design;

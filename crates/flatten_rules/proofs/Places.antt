@@ -1,8 +1,12 @@
-use Rattle.std.proofs.Common.{◌≡◌, ◌≢◌, ℕ, ◌<◌, ◌≤◌, ◌==◌, nat_lt, Bool, true, false, List, [], ◌∷◌, length, get_or, Some, None, position, AllPairs, arith, refl, ◌⊎◌, inl, inr, ⊎_elim}
+use Rattle.std.proofs.Common.{◌≡◌, ◌≢◌, ℕ, ◌<◌, ◌≤◌, ◌==◌, nat_lt, Bool, true, false, List, [], ◌∷◌, length, get_or, Some, None, position, find, slice_get, zero, suc, IsSome, IsSomeAnd, IfSome, IfNone, AllPairs, arith, refl, sym, ap, ◌∙◌, Option, Bor, cond, ⊎_elim}
 use Rattle.std.specs.List.{position_or_len}
+use Rattle.std.specs.Option.{option_copied}
+use Rattle.std.specs.Slice.{IsItemAt}
 use Rattle.std.specs.List.Sorted.{IsPartitionPoint, IsNonDecreasingBy}
-use Rattle.std.proofs.lemmas.Bool.{cases_lt}
+use Rattle.std.proofs.lemmas.Bool.{cases_lt, ltb-false, le-ltb, false≢true}
 use Rattle.std.proofs.lemmas.Bool.Decides.{nat_tests}
+use Rattle.std.proofs.lemmas.Option.{slice_get_past, slice_get-get_or}
+use Rattle.std.proofs.lemmas.List.Folds.{find_at}
 use Rattle.std.proofs.lemmas.List.Sums.{position_or_len_is}
 
 -- the first item that passes stands at this place
@@ -22,6 +26,33 @@ position-none p (x ∷ xs) fails =
 pub non_decreasing-from_rising : {X : Type 0} (n : X → ℕ) (xs : List X) → AllPairs (λ a b. n a < n b) xs → IsNonDecreasingBy n xs
 non_decreasing-from_rising n xs rise = λ i j d le within. ⊎_elim (λ below. omega (arith, rise i j d below within)) (λ (above : j ≤ i). let same : i ≡ j = omega arith in rw same (omega arith)) (cases_lt i j)
 
+place-some : (b : Bool) (i j : ℕ) → Some i ≡ cond b (Some j) None → j ≡ i
+place-some true i j e = cc
+place-some false i j e = cc
+
+not-past : (j n i : ℕ) → n ≤ j → Some i ≡ cond (nat_lt j n) (Some j) None → ⊥
+not-past j n i above e = let never : Some i ≡ None = rw (le-ltb j n above) at e in cc
+
+place-none : (b : Bool) (j : ℕ) → None ≡ cond b (Some j) None → b ≡ false
+place-none true j e = cc
+place-none false j e = refl
+
+place-within : (j n i : ℕ) → Some i ≡ cond (nat_lt j n) (Some j) None → i < n
+place-within j n i e = ⊎_elim (λ (below : j < n). omega (arith, place-some (nat_lt j n) i j e)) (λ (above : n ≤ j). absurd (not-past j n i above e)) (cases_lt j n)
+
+-- the first item that passes, by its place
+pub find-from_place : {X : Type 0} (p : X → Bool) (xs : List X) (i : ℕ) → Some i ≡ position p xs → slice_get xs i ≡ find p xs
+find-from_place p xs i at = rw (← place-some _ i (position_or_len p xs) at) (sym (find_at p xs))
+
+pub find-from_none : {X : Type 0} (p : X → Bool) (xs : List X) → None ≡ position p xs → None ≡ find p xs
+find-from_none p xs none =
+    sym (find_at p xs ∙ slice_get_past xs (position_or_len p xs) (ltb-false _ _ (place-none _ (position_or_len p xs) none)))
+
+-- what `get` of a slice gives, without the reference
+pub option_copied-get : {X : Type 0} (xs : List X) (i : ℕ) (r : Option (Bor X)) → IsItemAt xs i r → option_copied r ≡ slice_get xs i
+option_copied-get xs i None got = sym (slice_get_past xs i got.3)
+option_copied-get xs i (Some x) got = ap Some got.1 ∙ sym (slice_get-get_or xs i x.now got.3.0)
+
 abbrev Parts : {X : Type 0} → (X → ℕ) → ℕ → List X → ℕ → Type 0
 Parts n number xs i = IsPartitionPoint (λ x. nat_lt (n x) number ≡ true) (λ x. nat_lt (n x) number ≡ false) xs i
 
@@ -40,3 +71,22 @@ position-absent n number xs i parts rise here = position-none (λ x. n x == numb
     (λ under. let same : k ≡ i = omega arith in rw same (let other = here (omega arith) d in grind (arith, nat_tests)))
     (cases_lt i k))
     (cases_lt k i))
+
+some-found : {X : Type 0} (o f : Option X) → o ≡ f → IsSome o → IsSomeAnd o (λ x. f ≡ Some x)
+some-found None f e some = absurd (false≢true some)
+some-found (Some x) f e some = sym e
+
+is-there : {X : Type 0} (xs : List X) (i : ℕ) → i < length xs → IsSome (slice_get xs i)
+is-there [] i within = absurd (omega arith)
+is-there (x ∷ xs) zero within = refl
+is-there (x ∷ xs) (suc i) within = is-there xs i (omega arith)
+
+-- an item that is found stands at its place
+pub found-at_place : {X : Type 0} (p : X → Bool) (xs : List X) (r : Option ℕ) → r ≡ position p xs → IfSome r (λ i. IsSomeAnd (slice_get xs i) (λ x. find p xs ≡ Some x))
+found-at_place p xs None at = tt
+found-at_place p xs (Some i) at =
+    some-found (slice_get xs i) (find p xs) (find-from_place p xs i at) (is-there xs i (place-within (position_or_len p xs) (length xs) i at))
+
+pub found-nowhere : {X : Type 0} (p : X → Bool) (xs : List X) (r : Option ℕ) → r ≡ position p xs → IfNone r (find p xs ≡ None)
+found-nowhere p xs None at = sym (find-from_none p xs at)
+found-nowhere p xs (Some i) at = tt

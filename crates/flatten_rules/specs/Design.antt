@@ -1,4 +1,4 @@
-use Rattle.std.specs.Prelude.{◌≡◌, ℕ, Bool, false, List, Option, find, MatchOption, bytes_eq}
+use Rattle.std.specs.Prelude.{◌≡◌, ℕ, false, List, Option, find, MatchOption, bytes_eq}
 use Rattle.emh_base.specs.declared.ids.ModId.{ModId}
 use Rattle.emh_base.specs.declared.plain.PModule.{PModule}
 use Rattle.emh_base.specs.declared.plain.Plain.{Plain}

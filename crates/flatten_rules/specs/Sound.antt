@@ -1,4 +1,4 @@
-use Rattle.std.specs.Prelude.{◌≡◌, ℕ, ◌<◌, ◌≤◌, [], ◌++◌, map, Option, Some, None, IsTrue, IsSome, All, AllPairs, bytes_eq}
+use Rattle.std.specs.Prelude.{◌≡◌, ◌<◌, ◌≤◌, [], ◌++◌, map, Option, Some, None, IsTrue, IsSome, All, AllPairs, bytes_eq}
 use Rattle.std.specs.List.{IsDistinct}
 use Rattle.emh_base.specs.declared.plain.Range.{Range}
 use Rattle.emh_base.specs.declared.plain.PNet.{PNet}

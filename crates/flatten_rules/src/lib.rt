@@ -3,9 +3,11 @@
 #![tactic(auto)]
 
 mod laws;
+mod lookup;
 mod numbered;
 mod root;
 
 pub use laws::two_level_unfolds;
+pub use lookup::{find, module_of, net_of, place_of_module};
 pub use numbered::{Numbered, place_of};
 pub use root::Root;

@@ -1,4 +1,4 @@
-use Rattle.std.proofs.Common.{nat_lt, arith, rules}
+use Rattle.std.proofs.Common.{nat_lt, rules}
 use Rattle.std.proofs.lemmas.List.Sorted.{IsPartitionPoint-from_clause, IsPartitionedBy-ltb}
 use Rattle.flatten_rules.proofs.Places.{non_decreasing-from_rising}
 use Rattle.flatten_rules.proofs.numbered.first_from.Goals as goal

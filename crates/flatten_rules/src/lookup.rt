@@ -1,0 +1,44 @@
+ghost use Rattle.std.specs.Prelude.{◌≡◌, ◌==◌, ◌<◌, None, Some, AllPairs, find, slice_get, IfNone, IfSome, IsSomeAnd};
+ghost use Rattle.std.specs.Option.{option_copied};
+ghost use Rattle.emh_base.specs.declared.plain.PNet.{PNet};
+ghost use Rattle.emh_base.specs.declared.plain.PModule.{PModule};
+ghost use Rattle.flatten_rules.specs.Lookup.{module_of, net_of};
+
+use crate::numbered::{Numbered, place_of};
+use emh_base::{ModId, NetId, PModule, PNet, Plain};
+
+/// The item with a number, in a list in rising order of numbers.
+pub fn find<T: Numbered>(items: &[T], number: u32) -> Option<&T>
+    requires { AllPairs (λ a b. T.number_of a < T.number_of b) items.now }
+    ensures { option_copied result ≡ find (λ item. T.number_of item == number) items.now }
+{
+    match place_of(items, number) {
+        Some(place) => items.get(place),
+        None => None,
+    }
+}
+
+/// The module of that id.
+pub fn module_of(plain: &Plain, id: ModId) -> Option<&PModule>
+    requires { AllPairs (λ (a b : PModule). a.id.0 < b.id.0) plain.now.modules }
+    ensures { option_copied result ≡ module_of plain.now id }
+{
+    find(plain.modules.as_slice(), id.0)
+}
+
+/// The net of that id in a module.
+pub fn net_of(holder: &PModule, id: NetId) -> Option<&PNet>
+    requires { AllPairs (λ (a b : PNet). a.id.0 < b.id.0) holder.now.nets }
+    ensures { option_copied result ≡ net_of holder.now id }
+{
+    find(holder.nets.as_slice(), id.0)
+}
+
+/// The place in the table of the module of that id.
+pub fn place_of_module(plain: &Plain, id: ModId) -> Option<usize>
+    requires { AllPairs (λ (a b : PModule). a.id.0 < b.id.0) plain.now.modules }
+    ensures found { IfSome result (λ place. IsSomeAnd (slice_get plain.now.modules place) (λ m. module_of plain.now id ≡ Some m)) }
+    ensures none { IfNone result (module_of plain.now id ≡ None) }
+{
+    place_of(plain.modules.as_slice(), id.0)
+}
