@@ -8,6 +8,7 @@ mod name;
 mod path;
 mod placement;
 mod plain;
+mod pool;
 mod try_copy;
 
 pub use ids::{BlockKey, InstId, ModId, NetId, OccKey};
@@ -17,4 +18,8 @@ pub use name::{Name, NameFault};
 pub use path::Path;
 pub use placement::{Orient, Placement, Status};
 pub use plain::{Conn, Dir, PInst, PModule, PNet, PPort, Plain, Range, Src};
+pub use pool::Pool;
 pub use try_copy::TryCopy;
+
+#[cfg(test)]
+mod tests;
