@@ -1,3 +1,4 @@
 pub mod Name
+pub mod Pool
 pub mod Text
 pub mod TwoLevel

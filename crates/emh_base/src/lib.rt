@@ -8,6 +8,7 @@ mod name;
 mod path;
 mod placement;
 mod plain;
+mod pool;
 mod text;
 mod try_copy;
 
@@ -18,5 +19,9 @@ pub use name::{Name, NameFault};
 pub use path::Path;
 pub use placement::{Orient, Placement, Status};
 pub use plain::{Conn, Dir, PInst, PModule, PNet, PPort, Plain, Range, Src};
+pub use pool::Pool;
 pub use text::{push_index, push_number, push_spelled};
 pub use try_copy::TryCopy;
+
+#[cfg(test)]
+mod tests;
