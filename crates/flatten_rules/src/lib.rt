@@ -8,6 +8,6 @@ mod numbered;
 mod root;
 
 pub use laws::two_level_unfolds;
-pub use lookup::{find, module_of, net_of, place_of_module};
+pub use lookup::{find, module_of, net_of, place_of_module, width};
 pub use numbered::{Numbered, place_of};
 pub use root::Root;

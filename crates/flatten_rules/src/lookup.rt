@@ -1,11 +1,12 @@
-ghost use Rattle.std.specs.Prelude.{◌≡◌, ◌==◌, ◌<◌, None, Some, AllPairs, find, slice_get, IfNone, IfSome, IsSomeAnd};
+ghost use Rattle.std.specs.Prelude.{◌≡◌, ◌==◌, ◌<◌, ◌≤◌, None, Some, AllPairs, find, slice_get, IfNone, IfSome, IsSomeAnd};
 ghost use Rattle.std.specs.Option.{option_copied};
 ghost use Rattle.emh_base.specs.declared.plain.PNet.{PNet};
 ghost use Rattle.emh_base.specs.declared.plain.PModule.{PModule};
-ghost use Rattle.flatten_rules.specs.Lookup.{module_of, net_of};
+ghost use Rattle.flatten_rules.specs.Lookup.{module_of, net_of, width};
+ghost use Rattle.flatten_rules.specs.Sound.{IsAllowed};
 
 use crate::numbered::{Numbered, place_of};
-use emh_base::{ModId, NetId, PModule, PNet, Plain};
+use emh_base::{ModId, NetId, PModule, PNet, Plain, Range};
 
 /// The item with a number, in a list in rising order of numbers.
 pub fn find<T: Numbered>(items: &[T], number: u32) -> Option<&T>
@@ -41,4 +42,16 @@ pub fn place_of_module(plain: &Plain, id: ModId) -> Option<usize>
     ensures none { IfNone result (module_of plain.now id ≡ None) }
 {
     place_of(plain.modules.as_slice(), id.0)
+}
+
+/// The number of bits of a net with an allowed range: 1 to 4,096.
+pub fn width(range: Option<Range>) -> u16
+    requires { IsAllowed range }
+    ensures value { result ≡ width range }
+    ensures fits { result ≤ 4096 }
+{
+    match range {
+        None => 1,
+        Some(range) => (range.left.abs_diff(range.right) + 1) as u16,
+    }
 }
