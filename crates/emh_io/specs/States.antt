@@ -25,3 +25,8 @@ pub record FileShelfState : Type 0 where
   pub faults : ℕ
   pub taken : ℕ
   pub failed : Option (List ℕ)
+
+-- a sink over a writer: what the writer holds, where it tells that, and how many puts failed
+pub record OutSinkState : Type 0 where
+  pub contents : Option (List ℕ)
+  pub faults : ℕ
