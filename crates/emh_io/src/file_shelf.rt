@@ -1,5 +1,5 @@
 ghost use Rattle.std.specs.Prelude.{◌≡◌, ℕ, ◌+◌, ◌-◌, ◌^◌, ◌≤◌, length, min, IfOk, IfSome};
-ghost use Rattle.emh_io.specs.Fetch.{IsUntoldAnswer};
+ghost use Rattle.emh_io.specs.Fetch.{IsAnswer, within_limit, IsUntoldAnswer, HasCause};
 ghost use Rattle.emh_io.specs.Count.{RoseBy};
 
 use crate::shelf::{FILE_LIMIT, FetchFault, Shelf};
@@ -51,7 +51,9 @@ impl<R: Files + Drop> FileShelf<R> {
 
     /// The bytes of the file at that path. It neither counts nor names a failure.
     fn read(&mut self, name: &[u8]) -> Result<List<u8>, FetchFault>
-        ensures answer { IsUntoldAnswer self.old.taken self.new.taken result }
+        ensures untold { IsUntoldAnswer self.old.taken self.new.taken result }
+        ensures within { IfOk result (λ bytes. length bytes ≤ FILE_LIMIT) }
+        ensures counted { IfOk result (λ bytes. self.new.taken ≡ min (self.old.taken + length bytes) (2 ^ 64 - 1)) }
         ensures grows { self.old.taken ≤ self.new.taken }
         ensures faults { self.new.faults ≡ self.old.faults }
         ensures failed { self.new.failed ≡ self.old.failed }
@@ -77,7 +79,15 @@ impl<R: Files + Drop> Shelf for FileShelf<R> {
 
     ghost failed = { λ shelf. shelf.failed };
 
-    fn fetch(&mut self, name: &[u8]) -> Result<List<u8>, FetchFault> {
+    /// The bytes of the file at that path.
+    fn fetch(&mut self, name: &[u8]) -> Result<List<u8>, FetchFault>
+        ensures untold { IsUntoldAnswer self.old.taken self.new.taken result }
+        ensures cause { HasCause self.old.faults self.new.faults self.old.failed self.new.failed name.now result }
+        ensures grows { self.old.taken ≤ self.new.taken }
+
+        ensures within { IfOk result (λ bytes. length bytes ≤ FILE_LIMIT) }
+        ensures counted { IfOk result (λ bytes. self.new.taken ≡ min (self.old.taken + length bytes) (2 ^ 64 - 1)) }
+    {
         let asked = List::from_slice(self.alloc, name)?;
         match self.read(name) {
             Err(FetchFault::Failed) => {
@@ -92,10 +102,10 @@ impl<R: Files + Drop> Shelf for FileShelf<R> {
 
 /// Reads to the end, and adds the number of bytes that come to `taken`.
 fn read_whole<R: Read>(alloc: Global, reader: &mut R, taken: &mut u64) -> Result<List<u8>, FetchFault>
-    ensures whole { IfOk result (λ bytes. IfSome (R.remaining reader.old) (λ content. bytes ≡ content)) }
+    ensures told { IfSome (R.remaining reader.old) (λ content. IsAnswer (within_limit (Some content)) result) }
+    ensures untold { IsUntoldAnswer taken.old taken.new result }
     ensures within { IfOk result (λ bytes. length bytes ≤ FILE_LIMIT) }
     ensures counted { IfOk result (λ bytes. taken.new ≡ min (taken.old + length bytes) (2 ^ 64 - 1)) }
-    ensures answer { IsUntoldAnswer taken.old taken.new result }
     ensures grows { taken.old ≤ taken.new }
 {
     let mut bytes = List::new(alloc);
