@@ -101,7 +101,11 @@ impl<R: Files + Drop> Shelf for FileShelf<R> {
 }
 
 /// Reads to the end, and adds the number of bytes that come to `taken`.
-fn read_whole<R: Read>(alloc: Global, reader: &mut R, taken: &mut u64) -> Result<List<u8>, FetchFault>
+fn read_whole<R: Read>(
+    alloc: Global,
+    reader: &mut R,
+    taken: &mut u64,
+) -> Result<List<u8>, FetchFault>
     ensures told { IfSome (R.remaining reader.old) (λ content. IsAnswer (within_limit (Some content)) result) }
     ensures untold { IsUntoldAnswer taken.old taken.new result }
     ensures within { IfOk result (λ bytes. length bytes ≤ FILE_LIMIT) }

@@ -11,6 +11,8 @@ mod shelf;
 mod sink;
 mod sure_shelf;
 mod sure_sink;
+#[cfg(test)]
+mod tests;
 
 pub use file_shelf::FileShelf;
 pub use held::{Held, are_distinct};

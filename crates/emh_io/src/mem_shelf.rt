@@ -29,10 +29,10 @@ impl Model for MemShelf {
     ghost Value = { ShelfState };
 
     ghost view = { λ shelf. record {
-        files = shelf.shelf;
-        coming = shelf.plan;
-        faults = shelf.faults;
-        failed = shelf.failed;
+      files = shelf.shelf;
+      coming = shelf.plan;
+      faults = shelf.faults;
+      failed = shelf.failed;
     } };
 }
 

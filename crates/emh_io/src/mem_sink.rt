@@ -24,10 +24,10 @@ impl Model for MemSink {
     ghost Value = { SinkState };
 
     ghost view = { λ sink. record {
-        most = sink.sink.most;
-        written = sink.sink.written;
-        coming = sink.plan;
-        faults = sink.faults;
+      most = sink.sink.most;
+      written = sink.sink.written;
+      coming = sink.plan;
+      faults = sink.faults;
     } };
 }
 
