@@ -103,21 +103,21 @@ fn mem_sink_fails_at_its_second_put(rt: HostRuntime) -> Result<(), Fail> {
 
 #[test]
 fn file_shelf_reads_what_out_sink_wrote(rt: HostRuntime) -> Result<(), Fail> {
-    let path = "emh_io_file_shelf.tmp";
+    let path = "emh_io_shelf.tmp";
     let mut sink = OutSink::new(fs::create(&rt, path)?);
-    assert_eq!(rt; sink.put(b"module ")?, 7);
-    assert_eq!(rt; sink.put(b"top")?, 3);
+    assert_eq!(rt; sink.put(b"module")?, 6);
     let mut shelf = FileShelf::new(rt.alloc(), rt.clone()?);
     let read = shelf.fetch(path.as_bytes());
     fs::remove_file(&rt, path)?;
-    assert_eq!(rt; read?.as_slice(), b"module top".as_slice());
-    for name in [
-        path.as_bytes(),
-        b".".as_slice(),
-        b"".as_slice(),
-        b"\xff".as_slice(),
-        b"a\0".as_slice(),
-    ] {
+    assert_eq!(rt; read?.as_slice(), b"module".as_slice());
+    Ok(())
+}
+
+/// A file that isn't there, a folder, no name, a name that isn't text, and one with a byte 0.
+#[test]
+fn file_shelf_fails(rt: HostRuntime) -> Result<(), Fail> {
+    let mut shelf = FileShelf::new(rt.alloc(), rt.clone()?);
+    for name in [b"no such file".as_slice(), b".", b"", b"\xff", b"a\0"] {
         assert!(rt;
             matches!(shelf.fetch(name), Err(FetchFault::Failed)),
             "{name:?}"
