@@ -10,7 +10,8 @@ use std::alloc::Global;
 use std::marker::Model;
 
 /// A sink in memory whose puts fail where a plan says so. Any other put takes as many bytes as there are, up to a
-/// number that was set. A clause sees that number, what was written, the plan of the coming puts, and how many failed.
+/// number that was set. A clause sees that number, what was written, the plan of the coming puts, and how many
+/// failed.
 #[derive(Debug, Drop)]
 pub struct MemSink {
     sink: SureSink,

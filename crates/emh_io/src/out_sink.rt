@@ -60,7 +60,8 @@ impl<W: Write + Drop> Sink for OutSink<W> {
 /// Writes once, flushes, and answers how many bytes were taken: none of a piece that has some is a failure.
 fn write_some<W: Write>(out: &mut W, piece: &[u8]) -> Option<u32>
     ensures count { IfSome result (λ count. (count ≤ length piece.now) × (0 < length piece.now → 0 < count)) }
-    ensures passed_on { IfSome result (λ count. Appends (W.contents out.old) (W.contents out.new) (take count piece.now)) }
+    ensures passed_on { IfSome result
+        (λ count. Appends (W.contents out.old) (W.contents out.new) (take count piece.now)) }
 {
     let most = piece.len().min(u32::MAX as usize);
     let count = out.write(&piece[..most]).ok()?;
