@@ -1,4 +1,7 @@
 pub mod Count
 pub mod Files
 pub mod Fetch
+pub mod Held
+pub mod Plan
 pub mod Put
+pub mod States

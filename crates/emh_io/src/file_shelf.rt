@@ -1,0 +1,130 @@
+ghost use Rattle.std.specs.Prelude.{◌≡◌, ℕ, ◌+◌, ◌-◌, ◌^◌, ◌≤◌, length, min, IfOk, IfSome};
+ghost use Rattle.emh_io.specs.Fetch.{IsAnswer, within_limit, IsUntoldAnswer, HasCause};
+ghost use Rattle.emh_io.specs.Count.{RoseBy};
+
+use crate::shelf::{FILE_LIMIT, FetchFault, Shelf};
+use emh_base::List;
+use std::alloc::Global;
+use std::fs;
+use std::io::Read;
+use std::marker::Model;
+use std::rt::Files;
+
+/// How many bytes are asked for in one read.
+const PIECE: usize = 65_536;
+
+/// The real files as a shelf, which tells nothing of what it holds. A name is a path as it stands, from the current
+/// folder. A file that is missing, is a folder or may not be read has failed, and so has a name that isn't UTF-8.
+/// A clause sees how many fetches failed, how many bytes were read, and the name of the last fetch that failed.
+#[derive(Drop)]
+pub struct FileShelf<R: Files + Drop> {
+    alloc: Global,
+    files: R,
+    faults: u64,
+    taken: u64,
+    failed: Option<List<u8>>,
+}
+
+impl<R: Files + Drop> Model for FileShelf<R> {
+    ghost use Rattle.emh_io.specs.States.{FileShelfState};
+
+    ghost Value = { FileShelfState };
+
+    ghost view = { λ shelf. record { faults = shelf.faults; taken = shelf.taken; failed = shelf.failed } };
+}
+
+impl<R: Files + Drop> FileShelf<R> {
+    /// The files that the runtime reaches.
+    pub fn new(alloc: Global, files: R) -> FileShelf<R>
+        ensures faults { result.faults ≡ 0 }
+        ensures taken { result.taken ≡ 0 }
+        ensures failed { result.failed ≡ None }
+    {
+        FileShelf {
+            alloc,
+            files,
+            faults: 0,
+            taken: 0,
+            failed: None,
+        }
+    }
+
+    /// The bytes of the file at that path. It neither counts nor names a failure.
+    fn read(&mut self, name: &[u8]) -> Result<List<u8>, FetchFault>
+        ensures untold { IsUntoldAnswer self.old.taken self.new.taken result }
+        ensures within { IfOk result (λ bytes. length bytes ≤ FILE_LIMIT) }
+        ensures counted { IfOk result (λ bytes. self.new.taken ≡ min (self.old.taken + length bytes) (2 ^ 64 - 1)) }
+        ensures grows { self.old.taken ≤ self.new.taken }
+        ensures faults { self.new.faults ≡ self.old.faults }
+        ensures failed { self.new.failed ≡ self.old.failed }
+    {
+        let Ok(path) = str::from_utf8(name) else {
+            return Err(FetchFault::Failed);
+        };
+        let Ok(mut file) = fs::open(&self.files, path) else {
+            return Err(FetchFault::Failed);
+        };
+        read_whole(self.alloc, &mut file, &mut self.taken)
+    }
+}
+
+impl<R: Files + Drop> Shelf for FileShelf<R> {
+    ghost use Rattle.std.specs.Prelude.{None};
+
+    ghost holds = { λ _. None };
+
+    ghost fetch_faults = { λ shelf. shelf.faults };
+
+    ghost taken = { λ shelf. shelf.taken };
+
+    ghost failed = { λ shelf. shelf.failed };
+
+    /// The bytes of the file at that path.
+    fn fetch(&mut self, name: &[u8]) -> Result<List<u8>, FetchFault>
+        ensures untold { IsUntoldAnswer self.old.taken self.new.taken result }
+        ensures cause { HasCause self.old.faults self.new.faults self.old.failed self.new.failed name.now result }
+        ensures grows { self.old.taken ≤ self.new.taken }
+
+        ensures within { IfOk result (λ bytes. length bytes ≤ FILE_LIMIT) }
+        ensures counted { IfOk result (λ bytes. self.new.taken ≡ min (self.old.taken + length bytes) (2 ^ 64 - 1)) }
+    {
+        let asked = List::from_slice(self.alloc, name)?;
+        match self.read(name) {
+            Err(FetchFault::Failed) => {
+                self.faults = self.faults.saturating_add(1);
+                self.failed = Some(asked);
+                Err(FetchFault::Failed)
+            }
+            answer => answer,
+        }
+    }
+}
+
+/// Reads to the end, and adds the number of bytes that come to `taken`.
+fn read_whole<R: Read>(
+    alloc: Global,
+    reader: &mut R,
+    taken: &mut u64,
+) -> Result<List<u8>, FetchFault>
+    ensures told { IfSome (R.remaining reader.old) (λ content. IsAnswer (within_limit (Some content)) result) }
+    ensures untold { IsUntoldAnswer taken.old taken.new result }
+    ensures within { IfOk result (λ bytes. length bytes ≤ FILE_LIMIT) }
+    ensures counted { IfOk result (λ bytes. taken.new ≡ min (taken.old + length bytes) (2 ^ 64 - 1)) }
+    ensures grows { taken.old ≤ taken.new }
+{
+    let mut bytes = List::new(alloc);
+    let mut piece = [0; PIECE];
+    loop {
+        let Ok(count) = reader.read(&mut piece) else {
+            return Err(FetchFault::Failed);
+        };
+        *taken = taken.saturating_add(count as u64);
+        if count == 0 {
+            return Ok(bytes);
+        }
+        if count > FILE_LIMIT - bytes.len() {
+            return Err(FetchFault::TooLong);
+        }
+        bytes.extend(&piece[..count])?;
+    }
+}
