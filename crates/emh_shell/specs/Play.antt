@@ -1,4 +1,4 @@
-use Rattle.std.specs.Prelude.{◌≡◌, ℕ, ◌+◌, Bool, true, false, nat_lt, List, [], ◌∷◌, ◌++◌, length, Option, Some, None, Result, Ok, Err, ◌⊎◌, if◌then◌else◌, codes, MatchOption, MatchBool, MatchResult}
+use Rattle.std.specs.Prelude.{◌≡◌, ℕ, ◌+◌, Bool, true, false, nat_lt, List, [], ◌∷◌, ◌++◌, length, Option, Some, None, ◌⊎◌, if◌then◌else◌, codes, MatchOption, MatchBool, MatchResult}
 use Rattle.std.specs.Fmt.{decimal}
 use Rattle.emh_io.specs.declared.shelf.TheConstants.{FILE_LIMIT}
 use Rattle.emh_io.specs.Files.{Files, held}

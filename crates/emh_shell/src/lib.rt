@@ -4,6 +4,7 @@
 mod command;
 mod design;
 mod laws;
+mod pins;
 mod reply;
 mod root_text;
 mod stand;
