@@ -1,2 +1,6 @@
 pub mod Places
 pub mod Sound
+pub mod Extents
+pub mod Walks
+pub mod Counted
+pub mod Within

@@ -2,12 +2,15 @@
 //! its leaf pins, its limits.
 #![tactic(auto)]
 
+mod extent;
 mod laws;
+mod limits;
 mod lookup;
 mod numbered;
 mod root;
 
 pub use laws::two_level_unfolds;
+pub use limits::is_within;
 pub use lookup::{find, module_of, net_of, place_of_module, width};
 pub use numbered::{Numbered, place_of};
 pub use root::Root;
