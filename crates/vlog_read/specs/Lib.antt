@@ -1,5 +1,0 @@
-pub mod Token
-pub mod Spelling
-pub mod Netlist
-pub mod Table
-pub mod PlainFile
