@@ -1,4 +1,5 @@
 pub mod BookLemmas
+pub mod FileLemmas
 pub mod ModuleLemmas
 pub mod NumberedLemmas
 pub mod PlaceLemmas

@@ -26,7 +26,7 @@ pub fn add_modules(
         → OnOk result (rows.new ≡ rows.old ++ rows_after earlier leaf modules.now) }
 {
     for m in modules {
-        if leaf && !is_leaf(m) {
+        if !may_be(leaf, m) {
             return Err(PlainFault::NotPlain);
         }
         rows.push(module(alloc, book, leaf, m)?)?;
@@ -34,10 +34,11 @@ pub fn add_modules(
     Ok(())
 }
 
-fn is_leaf(m: &Module) -> bool
-    ensures { IsTrue result → IsLeaf m.now }
+/// Whether a module is a leaf cell, where it is to be one.
+fn may_be(leaf: bool, m: &Module) -> bool
+    ensures { IsTrue result → leaf ≡ true → IsLeaf m.now }
 {
-    m.wires.is_empty() && m.insts.is_empty()
+    !leaf || (m.wires.is_empty() && m.insts.is_empty())
 }
 
 /// The row of a module, which is put into the book.
