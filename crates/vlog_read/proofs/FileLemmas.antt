@@ -1,10 +1,9 @@
 -- A file of the plain form, from what the passes of the reader say.
-use Rattle.std.proofs.Common.{◌≡◌, ℕ, true, false, List, [], ◌∷◌, ◌++◌, map, length, sym, ◌∙◌, ap, subst, bytes_eq}
+use Rattle.std.proofs.Common.{◌≡◌, ℕ, true, false, List, [], ◌++◌, length, ◌∙◌, ap, subst}
 use Rattle.std.specs.List.{All}
 use Rattle.std.proofs.lemmas.List.{append-nil, length-map}
 use Rattle.emh_base.specs.declared.plain.PModule.{PModule}
 use Rattle.vlog_read.specs.declared.book.Book.{Book}
-use Rattle.vlog_read.specs.declared.netlist.Module.{Module}
 use Rattle.vlog_read.specs.declared.netlist.Netlist.{Netlist}
 use Rattle.vlog_read.specs.Book.{Knows, rows_after}
 use Rattle.vlog_read.specs.Netlist.{IsLeaf, IsNetlist, AreModules, AllDiffer, cells_of, all_modules}
@@ -29,11 +28,11 @@ module _ (n : Netlist) (book : Book) (knows : Knows book (all_modules n)) where
       let leaf_rows = rows_are [] (cells_of n) n.modules true cells in
       let all : cells_of n ++ (n.modules ++ []) ≡ all_modules n = ap (λ ms. cells_of n ++ ms) (append-nil n.modules) in
       let other_rows = rows_are (cells_of n) n.modules [] false modules
-          ∙ ap (λ ms. numbered (module_of ms false) (length (cells_of n)) n.modules) all in
+      ∙ ap (λ ms. numbered (module_of ms false) (length (cells_of n)) n.modules) all in
       let both : rows_after [] true (cells_of n) ++ rows_after (cells_of n) false n.modules
-          ≡ numbered (module_of (all_modules n) true) 0 (cells_of n)
-          ++ numbered (module_of (all_modules n) false) (length (cells_of n)) n.modules =
-          λ k. leaf_rows k ++ other_rows k in
+      ≡ numbered (module_of (all_modules n) true) 0 (cells_of n)
+      ++ numbered (module_of (all_modules n) false) (length (cells_of n)) n.modules =
+      λ k. leaf_rows k ++ other_rows k in
       let rows_are_those = are ∙ both in
       let counted : next ≡ length (all_modules n) = count ∙ ap length knows.names ∙ length-map (all_modules n) (λ m. m.name) in
       λ k. record { modules = rows_are_those k; next_module = counted k }

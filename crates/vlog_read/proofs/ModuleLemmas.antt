@@ -1,21 +1,21 @@
 -- A list of modules, each with those before it.
-use Rattle.std.proofs.Common.{◌≡◌, ℕ, ◌+◌, ◌<◌, Bool, true, false, cond, not, List, [], ◌∷◌, ◌++◌, map, find, length, Option, Some, None, position, unwrap_or, refl, sym, ◌∙◌, ap, subst, bytes_eq, nat_lt, append_assoc, length-append, MatchOption, Contains, arith}
+use Rattle.std.proofs.Common.{◌≡◌, ℕ, ◌+◌, ◌<◌, Bool, true, false, cond, not, List, [], ◌∷◌, ◌++◌, map, find, length, Option, Some, None, position, refl, sym, ◌∙◌, ap, subst, bytes_eq, nat_lt, append_assoc, length-append, MatchOption, Contains, arith}
 use Rattle.std.specs.List.{All, position_or_len}
 use Rattle.std.proofs.lemmas.Bool.{lt-ltb}
-use Rattle.std.proofs.lemmas.List.{append-nil, map-append, length-map}
+use Rattle.std.proofs.lemmas.List.{append-nil, length-map}
 use Rattle.std.proofs.lemmas.List.Elements.{All-head, All-tail}
 use Rattle.emh_base.specs.declared.plain.PModule.{PModule}
 use Rattle.vlog_read.specs.declared.netlist.Module.{Module}
 use Rattle.vlog_read.specs.declared.netlist.Instance.{Instance}
-use Rattle.vlog_read.specs.Book.{Knows, rows_after}
+use Rattle.vlog_read.specs.Book.{rows_after}
 use Rattle.vlog_read.specs.Netlist.{IsInstance, IsModule, AreModules, module_named, net_names}
-use Rattle.vlog_read.specs.Table.{numbered, number_of, inst_of, module_of}
+use Rattle.vlog_read.specs.Table.{numbered, inst_of, module_of}
 
 pub are_both : (earlier xs ys : List Module) → AreModules earlier xs → AreModules (earlier ++ xs) ys → AreModules earlier (xs ++ ys)
 are_both earlier [] ys here after = rw append-nil at after
 are_both earlier (x ∷ xs) ys here after =
     let rest : AreModules ((earlier ++ x ∷ []) ++ xs) ys =
-        subst (λ before. AreModules before ys) (sym (append_assoc earlier (x ∷ []) xs)) after in
+    subst (λ before. AreModules before ys) (sym (append_assoc earlier (x ∷ []) xs)) after in
     (here.0, are_both (earlier ++ x ∷ []) xs ys here.1 rest)
 
 -- one more module
@@ -57,8 +57,8 @@ module _ {X : Type 0} (name_of : X → List ℕ) (p : List ℕ → Bool) where
   place_more [] ys x found = cc
   place_more (z ∷ zs) ys x found =
       (elim (p (name_of z)) as (λ b. cond b (Some z) (find (λ x. p (name_of x)) zs) ≡ Some x
-          → (cond (not b) (1 + position_or_len p (map name_of (zs ++ ys))) 0 ≡ cond (not b) (1 + position_or_len p (map name_of zs)) 0)
-          × (cond (not b) (1 + position_or_len p (map name_of zs)) 0 < length (z ∷ zs))) [
+      → (cond (not b) (1 + position_or_len p (map name_of (zs ++ ys))) 0 ≡ cond (not b) (1 + position_or_len p (map name_of zs)) 0)
+      × (cond (not b) (1 + position_or_len p (map name_of zs)) 0 < length (z ∷ zs))) [
         | true ↦ λ found. (refl, omega arith)
         | false ↦ λ found. let rest = place_more zs ys x found in (ap (λ n. 1 + n) rest.0, omega (arith, rest.1))
       ]) found
@@ -69,9 +69,9 @@ module _ {X : Type 0} (name_of : X → List ℕ) (p : List ℕ → Bool) where
       let place = place_more xs ys x found in
       let n = position_or_len p (map name_of xs) in
       let short : nat_lt (position_or_len p (map name_of xs)) (length (map name_of xs)) ≡ true =
-          lt-ltb _ _ (omega (arith, place.1, length-map xs name_of)) in
+      lt-ltb _ _ (omega (arith, place.1, length-map xs name_of)) in
       let long : nat_lt (position_or_len p (map name_of (xs ++ ys))) (length (map name_of (xs ++ ys))) ≡ true =
-          lt-ltb _ _ (omega (arith, place.0, place.1, length-map (xs ++ ys) name_of, length-append xs ys)) in
+      lt-ltb _ _ (omega (arith, place.0, place.1, length-map (xs ++ ys) name_of, length-append xs ys)) in
       ap (λ b. cond b (Some (position_or_len p (map name_of (xs ++ ys)))) None) long
       ∙ ap Some place.0 ∙ sym (ap (λ b. cond b (Some (position_or_len p (map name_of xs))) None) short)
 
@@ -87,7 +87,7 @@ inst_more earlier more nets n i is = by (module_named earlier i.master) refl is.
     by (Some m) e some =
         let found : module_named (earlier ++ more) i.master ≡ Some m = find_more (λ m. bytes_eq i.master m.name) earlier more m e in
         let place : position (bytes_eq i.master) (map (λ m. m.name) (earlier ++ more)) ≡ position (bytes_eq i.master) (map (λ m. m.name) earlier) =
-            position_more (λ m. m.name) (bytes_eq i.master) earlier more m e in
+        position_more (λ m. m.name) (bytes_eq i.master) earlier more m e in
         rw (e, found, place) refl
 
 numbered_same : {X Y : Type 0} (f g : ℕ → X → Y) (P : X → Type 0) → ((n : ℕ) (x : X) → P x → f n x ≡ g n x)
@@ -103,8 +103,8 @@ row_more : (earlier more : List Module) (leaf : Bool) (n : ℕ) (m : Module) →
     → module_of earlier leaf n m ≡ module_of (earlier ++ more) leaf n m
 row_more earlier more leaf n m is =
     let same : numbered (inst_of earlier (net_names m)) 0 m.insts ≡ numbered (inst_of (earlier ++ more) (net_names m)) 0 m.insts =
-        numbered_same (inst_of earlier (net_names m)) (inst_of (earlier ++ more) (net_names m)) (IsInstance earlier (net_names m))
-        (λ k i good. inst_more earlier more (net_names m) k i good) 0 m.insts is.insts in
+    numbered_same (inst_of earlier (net_names m)) (inst_of (earlier ++ more) (net_names m)) (IsInstance earlier (net_names m))
+    (λ k i good. inst_more earlier more (net_names m) k i good) 0 m.insts is.insts in
     λ k. record (module_of earlier leaf n m) { insts = same k }
 
 -- the rows of modules, made from all modules
@@ -114,11 +114,11 @@ rows_are earlier [] after leaf are = refl
 rows_are earlier (m ∷ ms) after leaf are =
     let all = earlier ++ (m ∷ (ms ++ after)) in
     let first : module_of earlier leaf (length earlier) m ≡ module_of (earlier ++ (m ∷ (ms ++ after))) leaf (length earlier) m =
-        row_more earlier (m ∷ (ms ++ after)) leaf (length earlier) m are.0 in
+    row_more earlier (m ∷ (ms ++ after)) leaf (length earlier) m are.0 in
     let rest = rows_are (earlier ++ m ∷ []) ms after leaf are.1 in
     let same_all : (earlier ++ m ∷ []) ++ (ms ++ after) ≡ earlier ++ (m ∷ (ms ++ after)) = append_assoc earlier (m ∷ []) (ms ++ after) in
     let same_len : length (earlier ++ m ∷ []) ≡ length earlier + 1 = length-append earlier (m ∷ []) in
     let others : rows_after (earlier ++ m ∷ []) leaf ms ≡ numbered (module_of (earlier ++ (m ∷ (ms ++ after))) leaf) (length earlier + 1) ms =
-        rest ∙ ap (λ all. numbered (module_of all leaf) (length (earlier ++ m ∷ [])) ms) same_all
-        ∙ ap (λ n. numbered (module_of (earlier ++ (m ∷ (ms ++ after))) leaf) n ms) same_len in
+    rest ∙ ap (λ all. numbered (module_of all leaf) (length (earlier ++ m ∷ [])) ms) same_all
+    ∙ ap (λ n. numbered (module_of (earlier ++ (m ∷ (ms ++ after))) leaf) n ms) same_len in
     λ k. first k ∷ others k

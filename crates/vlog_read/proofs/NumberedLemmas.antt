@@ -32,12 +32,12 @@ pub net_more : (before nets made : List PNet) (names more : List (List ℕ)) (na
     → name ≡ given → more ≡ names ++ given ∷ [] → made ≡ before ++ numbered net_of (length before) more
 net_more before nets made names more name given id so_far number pushed copied next =
     let place : id ≡ length before + length names = number ∙ ap length so_far
-        ∙ length-append before (numbered net_of (length before) names)
-        ∙ ap (λ len. length before + len) (length_numbered net_of (length before) names) in
+    ∙ length-append before (numbered net_of (length before) names)
+    ∙ ap (λ len. length before + len) (length_numbered net_of (length before) names) in
     let last = numbered_more net_of (length before) id names name place in
     let pushed_there : nets ++ net_of id name ∷ [] ≡ before ++ numbered net_of (length before) (names ++ name ∷ []) =
-        ap (λ ns. ns ++ net_of id name ∷ []) so_far
-        ∙ append_assoc before (numbered net_of (length before) names) (net_of id name ∷ []) ∙ ap (λ ns. before ++ ns) (sym last) in
+    ap (λ ns. ns ++ net_of id name ∷ []) so_far
+    ∙ append_assoc before (numbered net_of (length before) names) (net_of id name ∷ []) ∙ ap (λ ns. before ++ ns) (sym last) in
     pushed ∙ pushed_there ∙ ap (λ ns. before ++ numbered net_of (length before) ns) (ap (λ n. names ++ n ∷ []) copied ∙ sym next)
 
 -- the nets of the direction lines, and then those of the wires
@@ -54,8 +54,8 @@ pub numbered_pushed : {X Y : Type 0} (make : ℕ → X → Y) (xs : List X) (i :
     → made ≡ so_far ++ y ∷ [] → made ≡ numbered make 0 (take (i + 1) xs)
 numbered_pushed make xs i x so_far made y within is before row pushed =
     let place : length so_far ≡ 0 + length (take i xs) =
-        ap length before ∙ length_numbered make 0 (take i xs) ∙ omega arith in
+    ap length before ∙ length_numbered make 0 (take i xs) ∙ omega arith in
     let next : take (i + 1) xs ≡ take i xs ++ x ∷ [] = take_more xs i x within ∙ ap (λ z. take i xs ++ z ∷ []) (sym is) in
     let last : made ≡ numbered make 0 (take i xs) ++ make (length so_far) x ∷ [] =
-        pushed ∙ ap (λ z. so_far ++ z ∷ []) row ∙ ap (λ front. front ++ make (length so_far) x ∷ []) before in
+    pushed ∙ ap (λ z. so_far ++ z ∷ []) row ∙ ap (λ front. front ++ make (length so_far) x ∷ []) before in
     last ∙ sym (ap (numbered make 0) next ∙ numbered_more make 0 (length so_far) (take i xs) x place)

@@ -1,5 +1,5 @@
 -- Where a name stands among names, and which part of a file has it.
-use Rattle.std.proofs.Common.{◌≡◌, ℕ, ◌+◌, ◌<◌, ◌≤◌, Bool, true, false, cond, not, List, [], ◌∷◌, ◌++◌, map, find, length, get_or, take, Option, Some, None, position, slice_get, refl, sym, ◌∙◌, ap, subst, arith, bytes_eq, nat_lt, Contains, IsTrue}
+use Rattle.std.proofs.Common.{◌≡◌, ℕ, ◌+◌, ◌<◌, ◌≤◌, Bool, true, false, cond, not, List, [], ◌∷◌, ◌++◌, map, find, length, get_or, take, Some, None, position, slice_get, refl, sym, ◌∙◌, ap, subst, arith, bytes_eq, nat_lt, Contains}
 use Rattle.std.specs.List.{list_any, position_or_len, All}
 use Rattle.std.specs.Cmp.Lexicographic.{same_text}
 use Rattle.std.proofs.lemmas.Bool.{le-ltb, lt-ltb}
@@ -23,11 +23,12 @@ differs_absent names name absent = by (list_any (bytes_eq name) names) refl
   where
     place : ℕ
     place = position_or_len (bytes_eq name) names
+
     by : (b : Bool) → list_any (bytes_eq name) names ≡ b → b ≡ false
     by false e = refl
     by true e =
         let found : position (bytes_eq name) names ≡ Some (position_or_len (bytes_eq name) names) =
-            ap (λ b. cond b (Some (position_or_len (bytes_eq name) names)) None) (sym (any_place (bytes_eq name) names) ∙ e) in
+        ap (λ b. cond b (Some (position_or_len (bytes_eq name) names)) None) (sym (any_place (bytes_eq name) names) ∙ e) in
         absurd (absent (contains_found names name (position_or_len (bytes_eq name) names) found))
 
 -- a name that gets the length as its number stands last
@@ -35,7 +36,7 @@ pub last_added : (names made : List (List ℕ)) (name : List ℕ) → made ≡ w
     → made ≡ names ++ name ∷ []
 last_added names made name added last =
     let absent : list_any (bytes_eq name) names ≡ false =
-        any_place (bytes_eq name) names ∙ le-ltb (number_in names name) (length names) (omega arith) in
+    any_place (bytes_eq name) names ∙ le-ltb (number_in names name) (length names) (omega arith) in
     added ∙ rw absent refl
 
 -- one more item
@@ -62,7 +63,7 @@ module _ {X : Type 0} (p : X → Bool) where
   place_front [] ys within = absurd (omega arith)
   place_front (x ∷ xs) ys within =
       (elim (p x) as (λ b. cond (not b) (1 + position_or_len p (xs ++ ys)) 0 < length (x ∷ xs)
-          → cond (not b) (1 + position_or_len p xs) 0 ≡ cond (not b) (1 + position_or_len p (xs ++ ys)) 0) [
+      → cond (not b) (1 + position_or_len p xs) 0 ≡ cond (not b) (1 + position_or_len p (xs ++ ys)) 0) [
         | true ↦ λ within. refl
         | false ↦ λ within. ap (λ n. 1 + n) (place_front xs ys (omega arith))
       ]) within
@@ -94,7 +95,7 @@ module _ {X : Type 0} (name_of : X → List ℕ) (p : List ℕ → Bool) where
       let place : position_or_len p (map name_of xs ++ more) ≡ n = place_found p (map name_of xs ++ more) n found in
       let within : n < length xs = slice_get_within xs n x here in
       let front : position_or_len p (map name_of xs) ≡ position_or_len p (map name_of xs ++ more) =
-          place_front p (map name_of xs) more (omega (arith, length-map xs name_of)) in
+      place_front p (map name_of xs) more (omega (arith, length-map xs name_of)) in
       find_map xs ∙ ap (λ n. slice_get xs n) (front ∙ place) ∙ here
 
 -- a name that is found, with other names after it, at the place of an item, is the name of one
@@ -104,11 +105,11 @@ found_front name_of xs more name n x found here =
     let within : n < length xs = slice_get_within xs n x here in
     let place : position_or_len (bytes_eq name) (map name_of xs ++ more) ≡ n = place_found (bytes_eq name) (map name_of xs ++ more) n found in
     let front : position_or_len (bytes_eq name) (map name_of xs) ≡ position_or_len (bytes_eq name) (map name_of xs ++ more) =
-        place_front (bytes_eq name) (map name_of xs) more (omega (arith, length-map xs name_of)) in
+    place_front (bytes_eq name) (map name_of xs) more (omega (arith, length-map xs name_of)) in
     let long : position_or_len (bytes_eq name) (map name_of xs) < length (map name_of xs) = omega (arith, length-map xs name_of) in
     let test : nat_lt (position_or_len (bytes_eq name) (map name_of xs)) (length (map name_of xs)) ≡ true = lt-ltb _ _ long in
     let there : position (bytes_eq name) (map name_of xs) ≡ Some (position_or_len (bytes_eq name) (map name_of xs)) =
-        ap (λ b. cond b (Some (position_or_len (bytes_eq name) (map name_of xs))) None) test in
+    ap (λ b. cond b (Some (position_or_len (bytes_eq name) (map name_of xs))) None) test in
     contains_found (map name_of xs) name (position_or_len (bytes_eq name) (map name_of xs)) there
 
 -- a loop that looks at each item

@@ -1,12 +1,12 @@
 -- How what was read is put together.
-use Rattle.std.proofs.Common.{◌≡◌, ℕ, ◌+◌, ◌<◌, List, [], ◌∷◌, ◌++◌, length, refl, sym, ◌∙◌, ap, append_assoc, true, arith}
+use Rattle.std.proofs.Common.{◌≡◌, ℕ, ◌<◌, List, [], ◌∷◌, ◌++◌, length, sym, ◌∙◌, ap, append_assoc, true, arith}
 use Rattle.std.specs.List.{flat_map, list_all}
 use Rattle.std.proofs.lemmas.List.{append-nil}
 use Rattle.std.proofs.lemmas.List.Concat.{flat_map-append}
 use Rattle.vlog_read.specs.declared.token.Token.{Token}
 use Rattle.vlog_read.specs.declared.token.Token.TheVariants.{Mark}
 use Rattle.vlog_read.specs.declared.token.Mark.TheVariants.{Comma}
-use Rattle.vlog_read.specs.Reading.{Skips, Begins}
+use Rattle.vlog_read.specs.Reading.{Begins}
 use Rattle.vlog_read.specs.Spelling.{commas}
 use Rattle.vlog_read.specs.Token.{is_blank, Lexes}
 
@@ -29,7 +29,7 @@ module _ {X : Type 0} (part : X → List Token) where
   one_more {bytes} {mid} {rest} xs x front back =
       let step : Begins bytes (flat_map part xs ++ part x) rest = then front back in
       let same : flat_map part (xs ++ x ∷ []) ≡ flat_map part xs ++ part x =
-          flat_map-append part xs (x ∷ []) ∙ ap (λ ts. flat_map part xs ++ ts) (append-nil (part x)) in
+      flat_map-append part xs (x ∷ []) ∙ ap (λ ts. flat_map part xs ++ ts) (append-nil (part x)) in
       rw same step
 
   -- the first part of a list with commas
@@ -41,7 +41,7 @@ module _ {X : Type 0} (part : X → List Token) where
   commas_more (y ∷ ys) x some =
       let after : X → List Token = λ z. Mark Comma ∷ part z in
       let more : flat_map after (ys ++ x ∷ []) ≡ flat_map after ys ++ after x =
-          flat_map-append after ys (x ∷ []) ∙ ap (λ ts. flat_map after ys ++ ts) (append-nil (after x)) in
+      flat_map-append after ys (x ∷ []) ∙ ap (λ ts. flat_map after ys ++ ts) (append-nil (after x)) in
       ap (λ ts. part y ++ ts) more ∙ sym (append_assoc (part y) (flat_map after ys) (after x))
 
   -- one more part, after a comma

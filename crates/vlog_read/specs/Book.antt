@@ -1,5 +1,5 @@
 -- What the reader keeps of the modules that it has read.
-use Rattle.std.specs.Prelude.{◌≡◌, ℕ, length, Bool, List, [], ◌∷◌, ◌++◌, map}
+use Rattle.std.specs.Prelude.{◌≡◌, length, Bool, List, [], ◌∷◌, ◌++◌, map}
 use Rattle.emh_base.specs.declared.plain.PModule.{PModule}
 use Rattle.vlog_read.specs.declared.book.Book.{Book}
 use Rattle.vlog_read.specs.declared.netlist.Module.{Module}

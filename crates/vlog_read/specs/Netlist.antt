@@ -1,4 +1,4 @@
-use Rattle.std.specs.Prelude.{◌≡◌, ℕ, Bool, ◌&&◌, not, List, [], ◌∷◌, ◌++◌, map, find, Option, Some, None, IsTrue, bytes_eq, All, Contains, MatchOption}
+use Rattle.std.specs.Prelude.{◌≡◌, ℕ, not, List, [], ◌∷◌, ◌++◌, map, find, Option, Some, None, IsTrue, bytes_eq, All, Contains, MatchOption}
 use Rattle.std.specs.List.{list_any, IsDistinct}
 use Rattle.word_table.specs.Reserved.{reserved_texts}
 use Rattle.vlog_read.specs.declared.netlist.Netlist.{Netlist}

@@ -71,6 +71,6 @@ module_of modules leaf n m = record {
 abbrev pub table : Netlist → Plain
 table n = record {
   modules = numbered (module_of (all_modules n) true) 0 (cells_of n)
-    ++ numbered (module_of (all_modules n) false) (length (cells_of n)) n.modules;
+      ++ numbered (module_of (all_modules n) false) (length (cells_of n)) n.modules;
   next_module = length (all_modules n);
 }

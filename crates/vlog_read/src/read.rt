@@ -21,7 +21,13 @@ pub fn read_plain(alloc: Global, bytes: &[u8]) -> Result<Plain, PlainFault>
     };
     let mut modules = List::new(alloc);
     add_modules(alloc, &mut book, true, cells_of(&file), &mut modules)?;
-    add_modules(alloc, &mut book, false, file.modules.as_slice(), &mut modules)?;
+    add_modules(
+        alloc,
+        &mut book,
+        false,
+        file.modules.as_slice(),
+        &mut modules,
+    )?;
     Ok(Plain {
         modules,
         next_module: id(book.names.len())?,

@@ -8,7 +8,9 @@ use crate::book::Book;
 use crate::fault::PlainFault;
 use crate::names::{Named, add, add_all, all_among, all_free, is_among, is_free, pool_of};
 use crate::netlist::{Instance, Module, PinOn};
-use emh_base::{Conn, InstId, List, ModId, Name, NetId, PInst, PModule, PNet, PPort, Pool, Src, TryCopy};
+use emh_base::{
+    Conn, InstId, List, ModId, Name, NetId, PInst, PModule, PNet, PPort, Pool, Src, TryCopy,
+};
 use std::alloc::Global;
 
 /// Puts the rows of these modules last, and the modules into the book. A leaf cell has ports alone.
@@ -153,7 +155,12 @@ fn port(m: &Module, nets: &Pool, name: &Name) -> Result<PPort, PlainFault>
 }
 
 /// The instances of a module with these nets, each of a module of the book.
-fn insts(alloc: Global, book: &Book, nets: &Pool, insts: &[Instance]) -> Result<List<PInst>, PlainFault>
+fn insts(
+    alloc: Global,
+    book: &Book,
+    nets: &Pool,
+    insts: &[Instance],
+) -> Result<List<PInst>, PlainFault>
     ensures conditions { (earlier : List ModuleValue) → Knows book.now earlier
         → OnOk result (All (IsInstance earlier nets.now) insts.now) }
     ensures rows { (earlier : List ModuleValue) → Knows book.now earlier
@@ -166,7 +173,13 @@ fn insts(alloc: Global, book: &Book, nets: &Pool, insts: &[Instance]) -> Result<
     Ok(rows)
 }
 
-fn instance(alloc: Global, book: &Book, nets: &Pool, number: usize, i: &Instance) -> Result<PInst, PlainFault>
+fn instance(
+    alloc: Global,
+    book: &Book,
+    nets: &Pool,
+    number: usize,
+    i: &Instance,
+) -> Result<PInst, PlainFault>
     ensures conditions { (earlier : List ModuleValue) → Knows book.now earlier → OnOk result (IsInstance earlier nets.now i.now) }
     ensures row { (earlier : List ModuleValue) → Knows book.now earlier
         → IfOk result (λ row. row ≡ inst_of earlier nets.now number i.now) }
@@ -178,7 +191,10 @@ fn instance(alloc: Global, book: &Book, nets: &Pool, number: usize, i: &Instance
         return Err(PlainFault::NotPlain);
     };
     let pins = pool_of(alloc, i.pins.as_slice())?;
-    if !is_free(&i.name) || !all_among(head, i.pins.as_slice()) || !all_on(nets, i.pins.as_slice()) {
+    if !is_free(&i.name)
+        || !all_among(head, i.pins.as_slice())
+        || !all_on(nets, i.pins.as_slice())
+    {
         return Err(PlainFault::NotPlain);
     }
     Ok(PInst {
@@ -221,7 +237,13 @@ fn conns(
 }
 
 /// The connection of a port, which is open where no pin names it. The pool has the ports of the pins.
-fn conn(alloc: Global, nets: &Pool, ports: &Pool, pins: &[PinOn], port: &Name) -> Result<Conn, PlainFault>
+fn conn(
+    alloc: Global,
+    nets: &Pool,
+    ports: &Pool,
+    pins: &[PinOn],
+    port: &Name,
+) -> Result<Conn, PlainFault>
     requires { ports.now ≡ map (λ pin. pin.port) pins.now }
     ensures { IfOk result (λ conn. conn ≡ conn_of nets.now (find (λ pin. bytes_eq port.now pin.port) pins.now)) }
 {

@@ -1,6 +1,5 @@
-use Rattle.std.proofs.Common.{◌≡◌, List, ℕ, refl, not, ap, subst, Contains, bytes_eq, IsTrue}
+use Rattle.std.proofs.Common.{List, ℕ, refl, not, ap, Contains, bytes_eq, IsTrue}
 use Rattle.std.specs.List.{list_any}
-use Rattle.word_table.specs.Reserved.{reserved_texts}
 use Rattle.vlog_read.proofs.PlaceLemmas.{differs_absent}
 use Rattle.vlog_read.proofs.names.is_free.Goals as goal
 

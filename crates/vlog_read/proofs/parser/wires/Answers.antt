@@ -1,4 +1,3 @@
-use Rattle.std.specs.List.{flat_map}
 use Rattle.vlog_read.specs.Spelling.{wire_line}
 use Rattle.vlog_read.proofs.ReadingLemmas.{then, one_more}
 use Rattle.vlog_read.proofs.parser.wires.Goals as goal

@@ -1,8 +1,6 @@
-use Rattle.std.proofs.Common.{◌≡◌, [], ◌++◌, true, refl, ap, subst, ◌∙◌}
-use Rattle.std.specs.List.{All}
+use Rattle.std.proofs.Common.{[], refl, ◌∙◌}
 use Rattle.vlog_read.specs.declared.book.Book.{Book}
-use Rattle.vlog_read.specs.Book.{Knows, rows_after}
-use Rattle.vlog_read.specs.Netlist.{AreModules, IsLeaf}
+use Rattle.vlog_read.specs.Book.{Knows}
 use Rattle.vlog_read.proofs.FileLemmas.{plain_file}
 use Rattle.vlog_read.proofs.read.read_plain.Goals as goal
 

@@ -9,5 +9,5 @@ abbrev pub invariant-loop-m : goal.invariant-loop-m
 invariant-loop-m l =
     let done = take l.m-index l.modules in
     ((earlier : List Module) → Knows l.initial.book earlier
-        → Knows l.book (earlier ++ done) × AreModules earlier done × (l.rows ≡ l.initial.rows ++ rows_after earlier l.leaf done))
+    → Knows l.book (earlier ++ done) × AreModules earlier done × (l.rows ≡ l.initial.rows ++ rows_after earlier l.leaf done))
     × (l.leaf ≡ true → All IsLeaf done)

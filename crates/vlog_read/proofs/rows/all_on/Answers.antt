@@ -1,4 +1,4 @@
-use Rattle.std.proofs.Common.{Contains, subst, refl, arith}
+use Rattle.std.proofs.Common.{Contains, refl, arith}
 use Rattle.vlog_read.proofs.PlaceLemmas.{all_next, all_done}
 use Rattle.vlog_read.proofs.rows.all_on.Goals as goal
 

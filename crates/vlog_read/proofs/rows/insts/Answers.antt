@@ -1,4 +1,4 @@
-use Rattle.std.proofs.Common.{◌∙◌, ap, arith, sym}
+use Rattle.std.proofs.Common.{◌∙◌, ap, arith}
 use Rattle.std.proofs.lemmas.List.{take_all}
 use Rattle.vlog_read.specs.Netlist.{IsInstance}
 use Rattle.vlog_read.specs.Table.{numbered, inst_of}
@@ -8,13 +8,12 @@ use Rattle.vlog_read.proofs.rows.insts.Goals as goal
 
 pub loop-inst-preserved : goal.loop-inst-preserved
 loop-inst-preserved c = λ earlier knows.
-    let before = c.loop-inst.invariant earlier knows in
-    (
+    let before = c.loop-inst.invariant earlier knows in (
       all_next (IsInstance earlier c.args.nets.now) c.args.insts.now c.loop-inst.inst-index c.inst-item.result (omega arith)
-        c.inst-item.is before.0 (c.in_ok-instance.ensures.conditions earlier knows),
+          c.inst-item.is before.0 (c.in_ok-instance.ensures.conditions earlier knows),
       numbered_pushed (inst_of earlier c.args.nets.now) c.args.insts.now c.loop-inst.inst-index c.inst-item.result
-        c.loop-inst.rows c.push.new.self c.in_ok-instance.field-0 (omega arith) c.inst-item.is before.1
-        (rw c.len.ensures at (c.in_ok-instance.ensures.row earlier knows)) c.in_ok-push.ensures.ok,
+          c.loop-inst.rows c.push.new.self c.in_ok-instance.field-0 (omega arith) c.inst-item.is before.1
+          (rw c.len.ensures at (c.in_ok-instance.ensures.row earlier knows)) c.in_ok-push.ensures.ok,
     )
 
 pub returns-clause-conditions : goal.returns-clause-conditions

@@ -1,4 +1,4 @@
-use Rattle.std.proofs.Common.{◌≡◌, List, subst, refl, ◌∙◌, Contains}
+use Rattle.std.proofs.Common.{◌≡◌, subst, refl, ◌∙◌, Contains}
 use Rattle.std.specs.List.{All}
 use Rattle.std.proofs.lemmas.List.{map-id}
 use Rattle.vlog_read.proofs.rows.module.Goals as goal

@@ -9,5 +9,5 @@ returns-then-all_free-2-clause-free c =
     let ports = c.args.m.now.ports in
     All-append IsFree (map (λ line. line.name) ports) c.args.m.now.wires
     (All-map IsFree (λ line. line.name) ports
-        (subst (λ lines. All (λ line. IsFree line.name) lines) c.as_slice-3.ensures (c.if-all_free.ensures refl)))
+    (subst (λ lines. All (λ line. IsFree line.name) lines) c.as_slice-3.ensures (c.if-all_free.ensures refl)))
     (subst (All IsFree) c.as_slice-then-all_free.ensures (c.if-all_free-2.ensures refl))

@@ -1,17 +1,16 @@
-use Rattle.std.proofs.Common.{◌≡◌, ℕ, List, ◌++◌, map, find, Some, position, slice_get, unwrap_or, sym, ◌∙◌, ap, refl, bytes_eq, Contains}
-use Rattle.emh_base.specs.declared.plain.PPort.{PPort}
+use Rattle.std.proofs.Common.{◌≡◌, ℕ, List, find, Some, position, slice_get, sym, refl, bytes_eq}
 use Rattle.vlog_read.specs.declared.netlist.Module.{Module}
 use Rattle.vlog_read.specs.declared.netlist.PortLine.{PortLine}
 use Rattle.vlog_read.specs.Netlist.{net_names}
-use Rattle.vlog_read.specs.Table.{port_of, dir_of}
-use Rattle.vlog_read.proofs.PlaceLemmas.{contains_found, find_front, found_front}
+use Rattle.vlog_read.specs.Table.{port_of}
+use Rattle.vlog_read.proofs.PlaceLemmas.{find_front, found_front}
 use Rattle.vlog_read.proofs.rows.port.Goals as goal
 
 made : (m : Module) (name : List ℕ) (n : ℕ) (line : PortLine) → position (bytes_eq name) (net_names m) ≡ Some n
     → slice_get m.ports n ≡ Some line → record { net = record { 0 = n }; dir = line.dir } ≡ port_of m name
 made m name n line found here =
     let first : find (λ line. bytes_eq name line.name) m.ports ≡ Some line =
-        find_front (λ line. line.name) (bytes_eq name) m.ports m.wires n line found here in
+    find_front (λ line. line.name) (bytes_eq name) m.ports m.wires n line found here in
     rw (found, first) refl
 
 found_there : (c : goal.After-result-2-1) → position (bytes_eq c.args.name.now) (net_names c.args.m.now) ≡ Some c.in-Some.number

@@ -1,4 +1,4 @@
-use Rattle.std.proofs.Common.{◌∙◌, ap, ◌++◌, ◌∷◌, [], map, take, arith, ◌+◌}
+use Rattle.std.proofs.Common.{◌∙◌, map, take, arith, ◌+◌}
 use Rattle.vlog_read.proofs.NumberedLemmas.{net_more, map_take_more}
 use Rattle.vlog_read.proofs.rows.push_nets.Goals as goal
 

@@ -1,16 +1,14 @@
-use Rattle.std.proofs.Common.{◌≡◌, List, ◌++◌, map, length, subst, ap, sym, ◌∙◌}
+use Rattle.std.proofs.Common.{◌≡◌, ◌++◌, map, length, subst, ap, ◌∙◌}
 use Rattle.std.specs.List.{All}
 use Rattle.std.proofs.lemmas.List.{length-map}
-use Rattle.vlog_read.specs.declared.netlist.Module.{Module}
 use Rattle.vlog_read.specs.Netlist.{AllDiffer, IsInstance, net_names}
-use Rattle.vlog_read.specs.Table.{numbered, inst_of}
 use Rattle.vlog_read.proofs.BookLemmas.{row_is}
 use Rattle.vlog_read.proofs.rows.row.Goals as goal
 
 pub returns-clause-conditions : goal.returns-clause-conditions
 returns-clause-conditions c = λ earlier knows.
     let all : c.add_all.new.pool ≡ net_names c.args.m.now ++ map (λ i. i.name) c.args.m.now.insts =
-        rw (c.in_ok-names.ensures.names, c.as_slice-2.ensures) at c.in_ok-add_all.ensures.names in
+    rw (c.in_ok-names.ensures.names, c.as_slice-2.ensures) at c.in_ok-add_all.ensures.names in
     record {
       free = c.requires.free;
       nets_free = c.in_ok-names.ensures.free;
