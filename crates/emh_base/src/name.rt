@@ -53,6 +53,7 @@ impl Name {
     /// The name of these bytes. Their number is looked at before their values.
     pub fn new(alloc: Global, bytes: &[u8]) -> Result<Name, NameFault>
         ensures ok { IfOk result (λ name. name ≡ bytes.now) }
+        ensures name { IfOk result IsName }
         ensures empty { (result ≡ Err NameFault.Empty) ↔ (bytes.now ≡ []) }
         ensures too_long { (result ≡ Err NameFault.TooLong) ↔ (1024 < length bytes.now) }
         ensures bad_byte { (at : ℕ) → (result ≡ Err (NameFault.BadByte at))

@@ -1,7 +1,7 @@
 use Rattle.std.specs.Prelude.{◌≡◌, ℕ, List, [], ◌∷◌, Option, Some, None, Ok, ◌⊎◌, Any}
 use Rattle.emh_io.specs.Count.{Rose}
 use Rattle.emh_io.specs.Files.{Files, held}
-use Rattle.emh_shell.specs.Script.{lines_of, commands_of}
+use Rattle.emh_shell.specs.Script.{script_of}
 use Rattle.emh_shell.specs.Play.{Fetches}
 use Rattle.emh_shell.specs.declared.command.Command.{Command}
 
@@ -16,7 +16,7 @@ pub record AsksByLine (holds : Option Files) (script_name name : List ℕ) : Typ
   pub script : List ℕ
   pub commands : List Command
   pub told : (files : Files) → holds ≡ Some files → held files script_name ≡ Some script
-  pub reads : commands_of 1 (lines_of script) ≡ Ok commands
+  pub reads : script_of script ≡ Ok commands
   pub asks : Any (λ command. Fetches command name) commands
 
 -- the name is the script's, or that of a file which one of its lines fetches

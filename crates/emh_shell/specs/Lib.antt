@@ -1,5 +1,6 @@
 pub mod Opened
 pub mod Pins
+pub mod Texts
 pub mod Script
 pub mod Load
 pub mod Play

@@ -1,10 +1,9 @@
-use Rattle.std.specs.Prelude.{ℕ, zero, suc, ◌+◌, Bool, List, [], ◌∷◌, ◌++◌, reverse, Option, Some, None, option_and_then, if◌then◌else◌, codes}
+use Rattle.std.specs.Prelude.{ℕ, List, [], ◌∷◌, ◌++◌, reverse, Option, Some, None, option_and_then, if◌then◌else◌, codes}
 use Rattle.std.specs.List.{flat_map, range_with_len}
 use Rattle.emh_base.specs.declared.ids.ModId.{ModId}
 use Rattle.emh_base.specs.declared.ids.NetId.{NetId}
 use Rattle.emh_base.specs.declared.ids.InstId.{InstId}
 use Rattle.emh_base.specs.declared.plain.PNet.{PNet}
-use Rattle.emh_base.specs.declared.plain.PPort.{PPort}
 use Rattle.emh_base.specs.declared.plain.PInst.{PInst}
 use Rattle.emh_base.specs.declared.plain.PModule.{PModule}
 use Rattle.emh_base.specs.declared.plain.Plain.{Plain}
@@ -55,6 +54,9 @@ abbrev pub leaf_lines : Plain → ModId → List InstId → Option PModule → L
 leaf_lines M top up None = []
 leaf_lines M top up (Some m) = if m.leaf then flat_map (λ port. port_lines M top up (net_of m port.net)) m.ports else []
 
+abbrev pub occurrence_lines : Plain → ModId → Occurrence → List ℕ
+occurrence_lines M top o = leaf_lines M top (reverse o.0) (module_of M o.1)
+
 -- The report of all leaf pins, in the order of the occurrence domain.
 abbrev pub pins_text : Plain → ModId → List ℕ
-pins_text M top = flat_map (λ (o : Occurrence). leaf_lines M top (reverse o.0) (module_of M o.1)) (occurrences M top)
+pins_text M top = flat_map (occurrence_lines M top) (occurrences M top)

@@ -1,10 +1,12 @@
-use Rattle.std.specs.Prelude.{◌≡◌, ℕ, ◌+◌, Bool, true, false, nat_lt, List, [], ◌∷◌, ◌++◌, length, Option, Some, None, Result, Ok, Err, ◌⊎◌, if◌then◌else◌, codes, MatchOption, MatchBool, MatchResult}
+use Rattle.std.specs.Prelude.{◌≡◌, ℕ, ◌+◌, Bool, true, false, nat_lt, List, [], ◌∷◌, ◌++◌, length, Option, Some, None, ◌⊎◌, if◌then◌else◌, codes, MatchOption, MatchBool, MatchResult}
 use Rattle.std.specs.Fmt.{decimal}
 use Rattle.emh_io.specs.declared.shelf.TheConstants.{FILE_LIMIT}
 use Rattle.emh_io.specs.Files.{Files, held}
 use Rattle.emh_shell.specs.Opened as opened
 use Rattle.emh_shell.specs.Pins.{pins_text}
-use Rattle.emh_shell.specs.Script.{lines_of, commands_of}
+use Rattle.emh_shell.specs.Script.{script_of}
+use Rattle.emh_shell.specs.declared.fault.ScriptFault.{ScriptFault}
+use Rattle.emh_shell.specs.declared.fault.ScriptFault.TheVariants.{TooManyLines, BadLine, NoMemory}
 use Rattle.emh_shell.specs.Load.{Loads}
 use Rattle.emh_shell.specs.declared.command.Command.{Command}
 use Rattle.emh_shell.specs.declared.command.Command.TheVariants.{Load, ReportPins}
@@ -22,9 +24,6 @@ refused_line line rule word = codes "refused " ++ (decimal line ++ (codes " " ++
 
 abbrev pub usage_line : List ℕ
 usage_line = codes "usage emhdb [--budget N] SCRIPT\n"
-
-abbrev pub bad_line : ℕ → List ℕ
-bad_line line = codes "bad line " ++ (decimal line ++ codes "\n")
 
 -- the next line of the script, after one that was refused or wasn't, with that design open
 abbrev pub went_on : Stand → Option opened.Opened → Bool → Stand
@@ -86,17 +85,17 @@ Plays files s (command ∷ commands) text status =
 abbrev pub start : Stand
 start = record { design = None; line = 1; refused = false }
 
--- the session of a script within the limits, or its first bad line
-abbrev pub PlaysLines : Files → List (List ℕ) → List ℕ → ℕ → Type 0
-PlaysLines files lines text status =
-    MatchResult (commands_of 1 lines) (λ commands. Plays files start commands text status) (λ line. (text ≡ bad_line line) × (status ≡ 2))
+-- the line that names what is wrong with a script
+abbrev pub fault_line : ScriptFault → List ℕ
+fault_line TooManyLines = codes "script has too many lines\n"
+fault_line (BadLine line) = codes "bad line " ++ (decimal line ++ codes "\n")
+fault_line NoMemory = []
 
--- a script has at most 67,108,864 bytes and 1,000,000 lines
+-- a script of at most 67,108,864 bytes is played line by line, once each of its lines is a command
 abbrev pub PlaysScript : Files → List ℕ → List ℕ → ℕ → Type 0
 PlaysScript files script text status =
     MatchBool (nat_lt FILE_LIMIT (length script)) ((text ≡ codes "script too long\n") × (status ≡ 2))
-    (MatchBool (nat_lt 1000000 (length (lines_of script))) ((text ≡ codes "script has too many lines\n") × (status ≡ 2))
-    (PlaysLines files (lines_of script) text status))
+    (MatchResult (script_of script) (λ commands. Plays files start commands text status) (λ fault. (text ≡ fault_line fault) × (status ≡ 2)))
 
 -- The plain session of a command line's words over files: its text and its status. The one word is the script's name.
 abbrev pub Play : Files → List (List ℕ) → List ℕ → ℕ → Type 0

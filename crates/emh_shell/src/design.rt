@@ -1,8 +1,11 @@
-ghost use Rattle.std.specs.Prelude.{◌≡◌};
+ghost use Rattle.std.specs.Prelude.{◌≡◌, Some};
+ghost use Rattle.flatten_rules.specs.Lookup.{module_of};
+ghost use Rattle.flatten_rules.specs.Sound.{IsSoundModule};
 ghost use Rattle.flatten_rules.specs.Design.{IsGood};
 ghost use Rattle.emh_shell.specs.Opened.{Opened};
 
-use emh_base::{ModId, Plain};
+use emh_base::{ModId, PModule, Plain};
+use flatten_rules::module_of;
 use std::marker::Model;
 
 /// An open design: a sound table that is within the limits at its top, which is no leaf.
@@ -40,7 +43,15 @@ impl Design {
         &self.plain
     }
 
-    /// The module that the design unfolds from.
+    /// The top as the table has it.
+    pub fn top_module(&self) -> &PModule
+        ensures found { module_of self.now.plain self.now.top ≡ Some result.now }
+        ensures sound { IsSoundModule self.now.plain result.now }
+    {
+        module_of(&self.plain, self.top).unwrap()
+    }
+
+    /// The id of the module that the design unfolds from.
     pub fn top(&self) -> ModId
         ensures { result ≡ self.now.top }
     {

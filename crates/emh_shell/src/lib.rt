@@ -3,9 +3,14 @@
 
 mod command;
 mod design;
+mod fault;
 mod laws;
+mod load;
+mod pins;
+mod print;
 mod reply;
 mod root_text;
+mod script;
 mod stand;
 mod way;
 

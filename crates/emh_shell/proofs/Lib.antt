@@ -1,0 +1,4 @@
+pub mod WayLemmas
+pub mod PlaceLemmas
+pub mod TextLemmas
+pub mod BelowLemmas

@@ -1,0 +1,63 @@
+ghost use Rattle.std.specs.Prelude.{◌≡◌, IfOk, IfSome, MatchOption};
+ghost use Rattle.std.specs.Option.{option_copied};
+ghost use Rattle.emh_base.specs.declared.ids.ModId.{ModId};
+ghost use Rattle.vlog_read.specs.PlainFile.{IsPlainFile};
+ghost use Rattle.flatten_rules.specs.Sound.{IsSound};
+ghost use Rattle.flatten_rules.specs.Design.{Opens, module_named};
+ghost use Rattle.emh_shell.specs.Load.{IsReading, inner_id};
+
+use emh_base::{ModId, Name, NoMemory, PModule, Plain};
+use flatten_rules::is_within;
+use std::alloc::Global;
+use vlog_read::{PlainFault, read_plain};
+
+use crate::design::Design;
+use crate::reply::LoadReply;
+
+/// Reads a netlist of the plain form and opens a design at the named top.
+pub fn open_file(alloc: Global, bytes: &[u8], top: &Name) -> Result<LoadReply, NoMemory>
+    ensures { IfOk result (IsReading bytes.now top.now) }
+{
+    match read_plain(alloc, bytes) {
+        Ok(plain) => Ok(match open_design(alloc, plain, top)? {
+            Some(design) => LoadReply::Opened(design),
+            None => LoadReply::NotBuilt,
+        }),
+        Err(PlainFault::NotPlain) => Ok(LoadReply::NotBuilt),
+        Err(PlainFault::NoMemory) => Err(NoMemory),
+    }
+}
+
+/// The design of a table at the named top, or none: exactly where the table has no such module, where it is a leaf, or
+/// where the table isn't within the limits at it.
+pub fn open_design(alloc: Global, plain: Plain, top: &Name) -> Result<Option<Design>, NoMemory>
+    requires { IsSound plain }
+    ensures { IfOk result (λ opened. MatchOption opened ((id : ModId) → ¬ Opens plain top.now id)
+        (λ design. (design.plain ≡ plain) × Opens plain top.now design.top)) }
+{
+    match inner_named(&plain, top) {
+        None => Ok(None),
+        Some(id) => {
+            if is_within(alloc, &plain, id)? {
+                Ok(Some(Design::new(plain, id)))
+            } else {
+                Ok(None)
+            }
+        }
+    }
+}
+
+/// The module of that name, where it is there and is no leaf.
+fn inner_named(plain: &Plain, name: &Name) -> Option<ModId>
+    ensures { result ≡ inner_id (module_named plain.now name.now) }
+{
+    let found = module_named(plain, name)?;
+    if found.leaf { None } else { Some(found.id) }
+}
+
+fn module_named<'a>(plain: &'a Plain, name: &Name) -> Option<&'a PModule>
+    ensures { option_copied result ≡ module_named plain.now name.now }
+{
+    let wanted = name.as_bytes();
+    plain.modules.as_slice().iter().find(|module| module.name.as_bytes() == wanted)
+}
