@@ -5,3 +5,4 @@ pub mod BelowLemmas
 pub mod ScriptLemmas
 pub mod GainsLemmas
 pub mod OpenLemmas
+pub mod PlainSound

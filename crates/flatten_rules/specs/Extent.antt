@@ -48,7 +48,8 @@ pub record IsExtent (M : Plain) (m : ModId) (e : Extent) : Type 0 where
 -- An extent is that of some instances together, by the walks that begin with one of them.
 pub record IsExtentOf (M : Plain) (insts : List PInst) (e : Extent) : Type 0 where
   pub stops : Stops e
-  pub depth : (levels : ℕ) → levels < 257 → greatest_by (λ (inst : PInst). suc (height M inst.master levels)) insts ≡ min (suc levels) e.depth
+  pub depth : (levels : ℕ) → levels < 257
+      → greatest_by (λ (inst : PInst). suc (height M inst.master levels)) insts ≡ min (suc levels) e.depth
   pub size : (levels : ℕ) → e.depth ≤ levels → levels < 257
       → min (sum_by (λ (inst : PInst). total one M inst.master levels) insts) 1000001 ≡ e.size
   pub bits : (levels : ℕ) → e.depth ≤ levels → levels < 257

@@ -1,4 +1,5 @@
-ghost use Rattle.std.specs.Prelude.{◌≡◌, ℕ, ◌<◌, ◌≤◌, ◌↔◌, Some, IsTrue, length, min, IfOk, sum_by, slice_index_or, All, AllPairs};
+ghost use Rattle.std.specs.Prelude.{◌≡◌, ℕ, ◌<◌, ◌≤◌, ◌↔◌, Some, IsTrue, length, min, IfOk};
+ghost use Rattle.std.specs.Prelude.{sum_by, slice_index_or, All, AllPairs};
 ghost use Rattle.emh_base.specs.declared.plain.PNet.{PNet};
 ghost use Rattle.emh_base.specs.declared.plain.PModule.{PModule};
 ghost use Rattle.flatten_rules.specs.Lookup.{width};

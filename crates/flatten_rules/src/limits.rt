@@ -7,16 +7,17 @@ use crate::extent::{Extent, extent_at, extents};
 use emh_base::{ModId, NoMemory, Plain};
 use std::alloc::Global;
 
-/// Whether a sound table is within the limits at a top: walks of at most 256 instances, from whichever module, and below
-/// the top at most 1,000,000 occurrences with 4,000,000 net bits. Each module is counted once, so a table that would
-/// unfold to far more is refused as fast.
+/// Whether a sound table is within the limits at a top: walks of at most 256 instances, from whichever module, and at
+/// most 1,000,000 occurrences, the top among them, with 4,000,000 net bits. Each module is counted once, so a table that
+/// would unfold to far more is refused as fast.
 pub fn is_within(alloc: Global, plain: &Plain, top: ModId) -> Result<bool, NoMemory>
     requires { IsSound plain.now }
     ensures { IfOk result (λ within. IsTrue within ↔ IsWithin plain.now top) }
 {
     let counted = extents(alloc, plain)?;
-    let at_top = extent_at(plain, counted.as_slice(), top);
-    Ok(are_shallow(counted.as_slice()) && at_top.is_small())
+    let modules = counted.as_slice();
+    let at_top = extent_at(plain, modules, top);
+    Ok(are_shallow(modules) && at_top.is_small())
 }
 
 /// Whether no walk is too long.

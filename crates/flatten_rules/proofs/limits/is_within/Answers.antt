@@ -13,7 +13,7 @@ returns c =
     let known = c.in_ok-counted.ensures.known in
     let all = c.in_ok-counted.ensures.all in
     let here = c.extent_at-at_top.ensures in
-    let shallow : IsTrue c.are_shallow.result ↔ AllShallow extents = rw (← c.as_slice-2.ensures) c.are_shallow.ensures in
+    let shallow : IsTrue c.are_shallow.result ↔ AllShallow extents = rw (← c.as_slice-modules.ensures) c.are_shallow.ensures in
     elim c.if-are_shallow.branch [
       | then-are_shallow w ↦ (
         λ yes. within-from_extents plain top extents at_top c.requires known all here (shallow.0 w.if-are_shallow.true) (w.is_small.ensures.0 (sym w.result-is ∙ yes)),
