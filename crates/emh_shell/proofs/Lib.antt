@@ -6,3 +6,4 @@ pub mod ScriptLemmas
 pub mod GainsLemmas
 pub mod OpenLemmas
 pub mod PlainSound
+pub mod Playing
