@@ -7,3 +7,4 @@ pub mod GainsLemmas
 pub mod OpenLemmas
 pub mod PlainSound
 pub mod Playing
+pub mod FetchLemmas

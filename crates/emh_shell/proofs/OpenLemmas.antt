@@ -1,9 +1,9 @@
-use Rattle.std.proofs.Common.{◌≡◌, ℕ, ◌<◌, ◌==◌, Bool, true, false, cond, List, length, get_or, find, slice_get, Option, Some, None, AllPairs, refl, sym, ap, ◌∙◌, arith, bytes_eq, subst}
+use Rattle.std.proofs.Common.{◌≡◌, ℕ, ◌<◌, ◌==◌, Bool, true, false, cond, List, length, get_or, find, slice_get, Option, Some, None, AllPairs, refl, sym, ap, ◌∙◌, arith, bytes_eq}
 use Rattle.std.specs.List.{position_or_len}
 use Rattle.std.proofs.lemmas.Bool.{ne_eqb, eq-eqb}
 use Rattle.std.proofs.lemmas.List.Folds.{find_at}
 use Rattle.std.proofs.lemmas.List.Sums.{position_or_len_is}
-use Rattle.std.proofs.lemmas.Option.{slice_get-get_or, slice_get_within, get_or_from_slice_get}
+use Rattle.std.proofs.lemmas.Option.{slice_get_within, get_or_from_slice_get}
 use Rattle.emh_base.specs.declared.ids.ModId.{ModId}
 use Rattle.emh_base.specs.declared.plain.PModule.{PModule}
 use Rattle.emh_base.specs.declared.plain.Plain.{Plain}
@@ -20,9 +20,9 @@ found-by_number xs p m rise found =
     let at : get_or xs k m ≡ m = get_or_from_slice_get xs k m m there in
     let own = ap (λ (x : PModule). x.id.0) at in
     let first : position_or_len (λ (x : PModule). x.id.0 == m.id.0) xs ≡ k =
-        position_or_len_is (λ (x : PModule). x.id.0 == m.id.0) xs k m (omega arith)
-        (λ j below. ne_eqb _ _ (λ same. absurd (let less = rise j k m below within in omega arith)))
-        (λ _. eq-eqb _ _ own) in
+    position_or_len_is (λ (x : PModule). x.id.0 == m.id.0) xs k m (omega arith)
+    (λ j below. ne_eqb _ _ (λ same. absurd (let less = rise j k m below within in omega arith)))
+    (λ _. eq-eqb _ _ own) in
     find_at (λ (x : PModule). x.id.0 == m.id.0) xs ∙ ap (slice_get xs) first ∙ there
 
 inner-leaf : (M : Plain) (id : ModId) (m : PModule) (leaf : Bool) → m.leaf ≡ leaf → module_of M m.id ≡ Some m → Some id ≡ cond leaf None (Some m.id) → IsInner (module_of M id)

@@ -1,11 +1,11 @@
-use Rattle.std.proofs.Common.{◌≡◌, ℕ, ◌+◌, ◌<◌, ◌≤◌, List, [], ◌∷◌, ◌++◌, drop, length, get_or, Option, Some, None, ◌⊎◌, inl, inr, refl, sym, ap, ◌∙◌, arith, append_assoc, append-nil, add-one, drop-cons, if◌then◌else◌, suc, Bool, true, false}
+use Rattle.std.proofs.Common.{◌≡◌, ℕ, ◌+◌, ◌<◌, ◌≤◌, List, [], ◌∷◌, ◌++◌, drop, length, get_or, Option, Some, None, inl, inr, refl, sym, ap, ◌∙◌, append_assoc, append-nil, add-one, drop-cons, if◌then◌else◌, suc, Bool, true, false}
 use Rattle.std.proofs.lemmas.List.{drop_all}
 use Rattle.emh_io.specs.Count.{Rose}
 use Rattle.emh_io.specs.Files.{Files, held}
 use Rattle.emh_io.specs.Put.{gains}
 use Rattle.emh_shell.specs.declared.command.Command.{Command}
 use Rattle.emh_shell.specs.declared.stand.Stand.{Stand}
-use Rattle.emh_shell.specs.Play.{Fetches, Steps, Stops, Plays, start}
+use Rattle.emh_shell.specs.Play.{Fetches, Steps, Plays, start}
 use Rattle.emh_shell.specs.Causes.{CannotFetch}
 use Rattle.emh_shell.proofs.GainsLemmas.{gains-gains, gains-nothing}
 
@@ -37,9 +37,11 @@ Played-step holds before mid new s t i commands command said had within here mor
 
 -- no command is left
 pub Played-end : (holds : Option Files) (before now : Option (List ℕ)) (s : Stand) (i : ℕ) (commands : List Command) (status : ℕ) → Played holds before now s (drop i commands) commands → length commands ≤ i → status ≡ (if s.refused then 1 else 0) → (files : Files) → holds ≡ Some files → (text : List ℕ) × (now ≡ gains before text) × Plays files start commands text status
-Played-end holds before now s i commands status had over same files told =
-    (had.said, had.written,
-        rw (← append-nil had.said) (had.goes_on files told [] status (rw (drop_all i commands over) (refl, same))))
+Played-end holds before now s i commands status had over same files told = (
+  had.said,
+  had.written,
+  rw (← append-nil had.said) (had.goes_on files told [] status (rw (drop_all i commands over) (refl, same))),
+)
 
 absent-here : (holds : Option Files) (files other : Files) (name : List ℕ) → holds ≡ Some files → holds ≡ Some other → held other name ≡ None → held files name ≡ None
 absent-here holds files other name told also absent = let same : files ≡ other = cc in rw same absent
@@ -51,9 +53,11 @@ absent-from_cause holds before now failed name files told quiet cause =
 
 -- a command fetches a file that isn't there
 pub Played-stop : (holds : Option Files) (before now : Option (List ℕ)) (s : Stand) (i : ℕ) (commands : List Command) (command : Command) (name : List ℕ) → Played holds before now s (drop i commands) commands → i < length commands → command ≡ get_or commands i command → (files : Files) → holds ≡ Some files → Fetches command name → held files name ≡ None → (text : List ℕ) × (now ≡ gains before text) × Plays files start commands text 3
-Played-stop holds before now s i commands command name had within here files told fetches absent =
-    (had.said, had.written,
-        rw (← append-nil had.said) (had.goes_on files told [] 3 (rw (command-here commands i command within here) (inl (record { name = name; fetches = fetches; absent = absent }, refl, refl)))))
+Played-stop holds before now s i commands command name had within here files told fetches absent = (
+  had.said,
+  had.written,
+  rw (← append-nil had.said) (had.goes_on files told [] 3 (rw (command-here commands i command within here) (inl (record { name = name; fetches = fetches; absent = absent }, refl, refl)))),
+)
 
 pub status-refused : (refused : Bool) (status : ℕ) → refused ≡ true → status ≡ 1 → status ≡ (if refused then 1 else 0)
 status-refused refused status was is = rw was is

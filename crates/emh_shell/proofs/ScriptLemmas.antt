@@ -1,12 +1,11 @@
-use Rattle.std.proofs.Common.{◌≡◌, ℕ, ◌+◌, ◌<◌, ◌≤◌, Bool, true, false, not, List, [], ◌∷◌, ◌++◌, map, take, drop, length, get_or, Option, Some, None, Result, Ok, Err, position, refl, sym, ap, ◌∙◌, suc, arith, append_assoc, add-one, drop-cons, IsTrue, Bor}
+use Rattle.std.proofs.Common.{◌≡◌, ℕ, ◌+◌, ◌<◌, ◌≤◌, true, false, not, List, [], ◌∷◌, ◌++◌, drop, length, get_or, Some, None, Result, Ok, Err, position, refl, sym, ap, ◌∙◌, suc, arith, append_assoc, add-one, drop-cons}
 use Rattle.std.specs.List.{list_all, position_or_len}
-use Rattle.std.proofs.lemmas.Bool.{false_from_ne_true, le-ltb, and_left, and_right, lt-leb}
+use Rattle.std.proofs.lemmas.Bool.{false_from_ne_true, le-ltb, and_right}
 use Rattle.emh_base.specs.Name.{is_name_byte}
 use Rattle.emh_shell.specs.declared.command.Command.{Command}
 use Rattle.emh_shell.specs.declared.fault.ScriptFault.{ScriptFault}
 use Rattle.emh_shell.specs.declared.fault.ScriptFault.TheVariants.{BadLine}
 use Rattle.emh_shell.specs.Script.{is_name, words_of, command_of, commands_of, with_front}
-use Rattle.emh_shell.specs.Texts.{texts}
 
 -- bytes that all fit have no first that doesn't
 all_fit : (bytes : List ℕ) → list_all is_name_byte bytes ≡ true → length bytes ≤ position_or_len (λ byte. not (is_name_byte byte)) bytes

@@ -6,13 +6,12 @@ ghost use Rattle.flatten_rules.specs.Sound.{IsSound};
 ghost use Rattle.flatten_rules.specs.Design.{Opens, module_named};
 ghost use Rattle.emh_shell.specs.Load.{IsReading, inner_id};
 
+use crate::design::Design;
+use crate::reply::LoadReply;
 use emh_base::{ModId, Name, NoMemory, PModule, Plain};
 use flatten_rules::is_within;
 use std::alloc::Global;
 use vlog_read::{PlainFault, read_plain};
-
-use crate::design::Design;
-use crate::reply::LoadReply;
 
 /// Reads a netlist of the plain form and opens a design at the named top.
 pub fn open_file(alloc: Global, bytes: &[u8], top: &Name) -> Result<LoadReply, NoMemory>
@@ -59,5 +58,9 @@ fn module_named<'a>(plain: &'a Plain, name: &Name) -> Option<&'a PModule>
     ensures { option_copied result ≡ module_named plain.now name.now }
 {
     let wanted = name.as_bytes();
-    plain.modules.as_slice().iter().find(|module| module.name.as_bytes() == wanted)
+    plain
+        .modules
+        .as_slice()
+        .iter()
+        .find(|module| module.name.as_bytes() == wanted)
 }

@@ -7,15 +7,14 @@ ghost use Rattle.emh_shell.specs.Load.{Loads};
 ghost use Rattle.emh_shell.specs.Play.{Play, Plays, PlaysLines, start, Steps, Fetches, usage_line, fault_line, report_text, after_report, after_load, load_text};
 ghost use Rattle.emh_shell.specs.Causes.{Asks, AsksInScript, CannotFetch};
 
-use emh_io::{FetchFault, PutFault, Shelf, Sink};
-use std::alloc::Global;
-
 use crate::command::Command;
 use crate::fault::{Halt, ScriptFault};
 use crate::print::{fault_line, usage_line};
 use crate::script::read_script;
 use crate::stand::Stand;
 use crate::step::step;
+use emh_io::{FetchFault, PutFault, Shelf, Sink};
+use std::alloc::Global;
 
 /// Runs the script that the one word names, over a shelf of files, and prints all that it says to a sink.
 ///
@@ -67,7 +66,12 @@ fn put_all<K: Sink>(out: &mut K, text: &[u8]) -> Result<(), Halt>
 }
 
 /// Plays the commands in order. What a command prints is written before the next one begins.
-fn play<F: Shelf, K: Sink>(alloc: Global, commands: &[Command], shelf: &mut F, out: &mut K) -> Result<u8, Halt>
+fn play<F: Shelf, K: Sink>(
+    alloc: Global,
+    commands: &[Command],
+    shelf: &mut F,
+    out: &mut K,
+) -> Result<u8, Halt>
     requires { length commands.now ≤ 1000000 }
     ensures ok { (files : Files) → F.holds shelf.old ≡ Some files → IfOk result (λ status.
         (text : List ℕ) × (K.written out.new ≡ gains (K.written out.old) text) × Plays files start commands.now text status) }
@@ -93,7 +97,12 @@ fn play<F: Shelf, K: Sink>(alloc: Global, commands: &[Command], shelf: &mut F, o
 }
 
 /// Plays the script that the words name.
-fn played<F: Shelf, K: Sink>(alloc: Global, words: &[String], shelf: &mut F, out: &mut K) -> Result<u8, Halt>
+fn played<F: Shelf, K: Sink>(
+    alloc: Global,
+    words: &[String],
+    shelf: &mut F,
+    out: &mut K,
+) -> Result<u8, Halt>
     ensures ok { (files : Files) → F.holds shelf.old ≡ Some files → IfOk result (λ status.
         (text : List ℕ) × (K.written out.new ≡ gains (K.written out.old) text) × Play files (map string_bytes words.now) text status) }
     ensures fetch { IsErrOf result Halt.Fetch → (name : List ℕ) × Asks (F.holds shelf.old) (map string_bytes words.now) name
@@ -123,7 +132,12 @@ fn print_usage<K: Sink>(alloc: Global, out: &mut K) -> Result<u8, Halt>
 }
 
 /// Fetches the script of that name and plays it.
-fn played_script<F: Shelf, K: Sink>(alloc: Global, name: &[u8], shelf: &mut F, out: &mut K) -> Result<u8, Halt>
+fn played_script<F: Shelf, K: Sink>(
+    alloc: Global,
+    name: &[u8],
+    shelf: &mut F,
+    out: &mut K,
+) -> Result<u8, Halt>
     ensures ok { (files : Files) → F.holds shelf.old ≡ Some files → IfOk result (λ status.
         (text : List ℕ) × (K.written out.new ≡ gains (K.written out.old) text) × Play files (name.now ∷ []) text status) }
     ensures fetch { IsErrOf result Halt.Fetch → (file : List ℕ) × Asks (F.holds shelf.old) (name.now ∷ []) file
@@ -155,7 +169,12 @@ fn print_too_long<K: Sink>(out: &mut K) -> Result<u8, Halt>
 }
 
 /// Plays a script, or writes what is wrong with it.
-fn play_script<F: Shelf, K: Sink>(alloc: Global, script: &[u8], shelf: &mut F, out: &mut K) -> Result<u8, Halt>
+fn play_script<F: Shelf, K: Sink>(
+    alloc: Global,
+    script: &[u8],
+    shelf: &mut F,
+    out: &mut K,
+) -> Result<u8, Halt>
     ensures ok { (files : Files) → F.holds shelf.old ≡ Some files → IfOk result (λ status.
         (text : List ℕ) × (K.written out.new ≡ gains (K.written out.old) text) × PlaysLines files script.now text status) }
     ensures fetch { IsErrOf result Halt.Fetch → (file : List ℕ) × AsksInScript script.now file

@@ -1,10 +1,9 @@
 ghost use Rattle.std.specs.Prelude.{◌≡◌, ◌++◌, IfOk, OnOk, codes};
 ghost use Rattle.emh_shell.specs.Play.{ok_line, refused_line, usage_line, fault_line};
 
+use crate::fault::ScriptFault;
 use emh_base::{List, NoMemory, push_number};
 use std::alloc::Global;
-
-use crate::fault::ScriptFault;
 
 /// `ok LINE`, for an accepted command.
 pub fn ok_line(alloc: Global, line: u64) -> Result<List<u8>, NoMemory>
@@ -17,7 +16,12 @@ pub fn ok_line(alloc: Global, line: u64) -> Result<List<u8>, NoMemory>
 }
 
 /// `refused LINE CODE RULE word WORD`, for a command that is refused because of a word of its line.
-pub fn refused_line(alloc: Global, line: u64, rule: &[u8], word: &[u8]) -> Result<List<u8>, NoMemory>
+pub fn refused_line(
+    alloc: Global,
+    line: u64,
+    rule: &[u8],
+    word: &[u8],
+) -> Result<List<u8>, NoMemory>
     ensures { IfOk result (λ text. text ≡ refused_line line rule.now word.now) }
 {
     let mut text = List::from_slice(alloc, b"refused ".as_slice())?;
@@ -48,7 +52,10 @@ pub fn fault_line(alloc: Global, fault: ScriptFault) -> Result<List<u8>, NoMemor
     ensures { IfOk result (λ text. text ≡ fault_line fault) }
 {
     match fault {
-        ScriptFault::TooManyLines => List::from_slice(alloc, b"script has too many lines\n".as_slice()),
+        ScriptFault::TooManyLines => List::from_slice(
+            alloc,
+            b"script has too many lines\n".as_slice(),
+        ),
         ScriptFault::BadLine { line } => bad_line(alloc, line),
         ScriptFault::NoMemory => Ok(List::new(alloc)),
     }

@@ -4,11 +4,10 @@ ghost use Rattle.emh_shell.specs.declared.command.Command.TheVariants.{Load};
 ghost use Rattle.emh_shell.specs.Script.{is_name, is_letter, is_identifier, lines_of, words_of, report_of, load_of, command_of, commands_of, continues, script_of, IsScriptAnswer};
 ghost use Rattle.emh_shell.specs.Texts.{texts};
 
-use emh_base::{List, Name, NameFault, NoMemory};
-use std::alloc::{AllocError, Global};
-
 use crate::command::Command;
 use crate::fault::{LINE_LIMIT, ScriptFault};
+use emh_base::{List, Name, NameFault, NoMemory};
+use std::alloc::{AllocError, Global};
 
 /// The commands of a script, in order. Its lines end with a newline; a last piece that isn't empty is a line too.
 /// The number of lines is looked at before what they say.
@@ -47,7 +46,9 @@ fn read_commands(alloc: Global, lines: &[&[u8]]) -> Result<List<Command>, Script
     for (at, line) in lines.iter().enumerate() {
         match read_line(alloc, line)? {
             Some(command) => commands.push(command)?,
-            None => return Err(ScriptFault::BadLine { line: at as u32 + 1 }),
+            None => return Err(ScriptFault::BadLine {
+                line: at as u32 + 1,
+            }),
         }
     }
     Ok(commands)

@@ -4,10 +4,6 @@ ghost use Rattle.emh_shell.specs.Load.{Loads};
 ghost use Rattle.emh_shell.specs.Play.{Steps, Fetches, report_text, after_report, after_load, load_text};
 ghost use Rattle.emh_shell.specs.Causes.{CannotFetch};
 
-use emh_base::{List, Name, NoMemory};
-use emh_io::{FetchFault, Shelf};
-use std::alloc::Global;
-
 use crate::command::Command;
 use crate::fault::Halt;
 use crate::load::open_file;
@@ -15,9 +11,17 @@ use crate::pins::report_pins;
 use crate::print::{ok_line, refused_line};
 use crate::reply::LoadReply;
 use crate::stand::Stand;
+use emh_base::{List, Name, NoMemory};
+use emh_io::{FetchFault, Shelf};
+use std::alloc::Global;
 
 /// Carries out one command, and gives what it prints.
-pub fn step<F: Shelf>(alloc: Global, stand: &mut Stand, command: &Command, shelf: &mut F) -> Result<List<u8>, Halt>
+pub fn step<F: Shelf>(
+    alloc: Global,
+    stand: &mut Stand,
+    command: &Command,
+    shelf: &mut F,
+) -> Result<List<u8>, Halt>
     requires { stand.old.line + 1 < 2 ^ 64 }
     ensures ok { (files : Files) → F.holds shelf.old ≡ Some files → IfOk result (λ said. Steps files stand.old command.now said stand.new) }
     ensures line { OnOk result (stand.new.line ≡ stand.old.line + 1) }
@@ -56,7 +60,12 @@ fn load<F: Shelf>(alloc: Global, file: &Name, top: &Name, shelf: &mut F) -> Resu
 }
 
 /// The line that `load` prints, with the design that it opened. A refused one leaves the open design.
-fn print_load(alloc: Global, stand: &mut Stand, file: &Name, reply: LoadReply) -> Result<List<u8>, NoMemory>
+fn print_load(
+    alloc: Global,
+    stand: &mut Stand,
+    file: &Name,
+    reply: LoadReply,
+) -> Result<List<u8>, NoMemory>
     requires { stand.old.line + 1 < 2 ^ 64 }
     ensures text { IfOk result (λ said. said ≡ load_text stand.old.line file.now reply) }
     ensures stand { OnOk result (stand.new ≡ after_load stand.old reply) }

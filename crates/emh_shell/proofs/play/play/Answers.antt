@@ -29,8 +29,8 @@ loop-command-preserved g c =
 pub returns-clause-ok : goal.returns-clause-ok
 returns-clause-ok g c = λ files told.
     let status : c.if-stand.result ≡ (if c.loop-command.stand.refused then 1 else 0) =
-        elim c.if-stand.branch [
-          then-stand w ↦ status-refused c.loop-command.stand.refused c.if-stand.result w.if-stand.true w.result-is
-        | else-stand w ↦ status-accepted c.loop-command.stand.refused c.if-stand.result w.if-stand.false w.result-is
-        ] in
+    elim c.if-stand.branch [
+      | then-stand w ↦ status-refused c.loop-command.stand.refused c.if-stand.result w.if-stand.true w.result-is
+      | else-stand w ↦ status-accepted c.loop-command.stand.refused c.if-stand.result w.if-stand.false w.result-is
+    ] in
     Played-end (g.F.Shelf.holds c.args.shelf.now) (g.K.Sink.written c.args.out.now) (g.K.Sink.written c.loop-command.out) c.loop-command.stand c.loop-command.command-index c.args.commands.now c.if-stand.result c.loop-command.invariant.played (omega arith) status files told

@@ -8,5 +8,5 @@ invariant-loop-command g l = record {
   holds : g.F.Shelf.holds l.shelf ≡ g.F.Shelf.holds l.initial.shelf;
   fetch_faults : g.F.Shelf.fetch_faults l.shelf ≡ g.F.Shelf.fetch_faults l.initial.shelf;
   faults : g.K.Sink.faults l.out ≡ g.K.Sink.faults l.initial.out;
-  played : Played (g.F.Shelf.holds l.initial.shelf) (g.K.Sink.written l.initial.out) (g.K.Sink.written l.out) l.stand (drop l.command-index l.commands) l.commands
+  played : Played (g.F.Shelf.holds l.initial.shelf) (g.K.Sink.written l.initial.out) (g.K.Sink.written l.out) l.stand (drop l.command-index l.commands) l.commands;
 }

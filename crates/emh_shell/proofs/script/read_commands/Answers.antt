@@ -1,4 +1,4 @@
-use Rattle.std.proofs.Common.{ℕ, ◌<◌, [], List, length, map, get_or, sym, ◌∙◌, arith, length-append, Bor}
+use Rattle.std.proofs.Common.{ℕ, [], List, get_or, sym, ◌∙◌, arith, length-append, Bor}
 use Rattle.std.proofs.lemmas.List.{get_or-map, length-map}
 use Rattle.emh_shell.specs.Texts.{texts}
 use Rattle.emh_shell.proofs.ScriptLemmas.{commands_of-stops, commands_of-more}

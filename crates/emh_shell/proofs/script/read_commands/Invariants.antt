@@ -7,5 +7,5 @@ use Rattle.emh_shell.proofs.script.read_commands.Given as goal
 abbrev pub invariant-loop-at : goal.invariant-loop-at
 invariant-loop-at l = record {
   front : with_front l.commands (commands_of (l.at + 1) (drop l.at (texts l.lines))) ≡ commands_of 1 (texts l.lines);
-  count : length l.commands ≡ l.at
+  count : length l.commands ≡ l.at;
 }
