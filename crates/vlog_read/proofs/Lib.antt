@@ -4,3 +4,4 @@ pub mod ModuleLemmas
 pub mod NumberedLemmas
 pub mod PlaceLemmas
 pub mod ReadingLemmas
+pub mod TwoLevelFile

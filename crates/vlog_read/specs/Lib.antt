@@ -5,3 +5,4 @@ pub mod Netlist
 pub mod Table
 pub mod Book
 pub mod PlainFile
+pub mod TwoLevelText
