@@ -1,6 +1,6 @@
 -- Loops over items in rising order, and over names that are put into a pool.
-use Rattle.std.proofs.Common.{◌≡◌, ℕ, ◌+◌, ◌<◌, ◌≤◌, Bool, true, false, List, [], ◌∷◌, ◌++◌, map, length, take, get_or, position, Some, None, bytes_eq, All, AllPairs, refl, sym, ap, ◌∙◌, arith, cond, nat_lt}
-use Rattle.std.specs.List.{list_any, position_or_len}
+use Rattle.std.proofs.Common.{◌≡◌, ℕ, ◌+◌, ◌<◌, ◌≤◌, List, [], ◌∷◌, ◌++◌, map, length, take, get_or, position, None, bytes_eq, All, AllPairs, refl, ◌∙◌, arith}
+use Rattle.std.specs.List.{position_or_len}
 use Rattle.std.proofs.lemmas.Bool.{le-ltb}
 use Rattle.std.proofs.lemmas.List.{take_more, take_all, append_assoc, map_more}
 use Rattle.std.proofs.lemmas.List.Elements.{All-push, All-weaker}

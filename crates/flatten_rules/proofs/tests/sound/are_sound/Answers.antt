@@ -1,7 +1,6 @@
-use Rattle.std.proofs.Common.{◌≡◌, ap, subst, sym, ◌∙◌, All, take, length, List}
+use Rattle.std.proofs.Common.{subst, sym, ◌∙◌, take}
 use Rattle.std.proofs.lemmas.List.{take_all}
 use Rattle.std.proofs.lemmas.List.Elements.{All-more, All-same}
-use Rattle.emh_base.specs.declared.plain.PModule.{PModule}
 use Rattle.flatten_rules.specs.Sound.{IsSoundModule}
 use Rattle.flatten_rules.proofs.tests.sound.are_sound.Goals as goal
 

@@ -1,4 +1,4 @@
-use Rattle.std.proofs.Common.{◌≡◌, ◌∙◌, sym, ap}
+use Rattle.std.proofs.Common.{◌∙◌, sym, ap}
 use Rattle.emh_base.specs.Pool.{number_in, with_name}
 use Rattle.flatten_rules.proofs.Rising.{put_new-more}
 use Rattle.flatten_rules.proofs.tests.sound.put_new.Goals as goal

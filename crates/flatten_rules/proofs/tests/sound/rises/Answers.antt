@@ -1,4 +1,4 @@
-use Rattle.std.proofs.Common.{◌≡◌, ◌≤◌, ◌∙◌, ap, get_or, arith}
+use Rattle.std.proofs.Common.{◌≤◌, ◌∙◌, ap, get_or, arith}
 use Rattle.std.proofs.lemmas.Bool.{leb-true}
 use Rattle.flatten_rules.proofs.Rising.{rises-more, rises-all}
 use Rattle.flatten_rules.proofs.tests.sound.rises.Goals as goal
