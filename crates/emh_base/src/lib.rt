@@ -15,7 +15,7 @@ mod try_copy;
 pub use ids::{BlockKey, InstId, ModId, NetId, OccKey};
 pub use list::List;
 pub use memory::NoMemory;
-pub use name::{Name, NameFault};
+pub use name::{NAME_LIMIT, Name, NameFault};
 pub use path::Path;
 pub use placement::{Orient, Placement, Status};
 pub use plain::{Conn, Dir, PInst, PModule, PNet, PPort, Plain, Range, Src};

@@ -2,4 +2,8 @@ pub mod WayLemmas
 pub mod PlaceLemmas
 pub mod TextLemmas
 pub mod BelowLemmas
+pub mod ScriptLemmas
+pub mod GainsLemmas
+pub mod OpenLemmas
 pub mod PlainSound
+pub mod Playing

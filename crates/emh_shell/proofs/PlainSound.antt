@@ -104,15 +104,7 @@ table-in_rows n =
 
 -- the test of `module_named`
 abbrev has_name : List ℕ → Module → Bool
-has_name name m = bytes_eq m.name name
-
-bytes_eq-flip : (xs ys : List ℕ) → bytes_eq xs ys ≡ bytes_eq ys xs
-bytes_eq-flip xs ys =
-    let decides = bytes_eq-Decides xs ys in
-    same_from_decides {P = ys ≡ xs} (bytes_eq xs ys) (bytes_eq ys xs) (λ yes. sym (decides.0 yes), λ same. decides.1 (sym same)) (bytes_eq-Decides ys xs)
-
-same-name : (name : List ℕ) (m : Module) → has_name name m ≡ bytes_eq name m.name
-same-name name m = search (bytes_eq-flip m.name name)
+has_name name m = bytes_eq name m.name
 
 first-step : (b c : Bool) (y x : Module) (rest : Option Module) (place k len : ℕ) → b ≡ c → (rest ≡ Some x → (place < k) × (place < len)) → cond b (Some y) rest ≡ Some x → (cond (not c) (1 + place) 0 < suc k) × (cond (not c) (1 + place) 0 < suc len)
 first-step true c y x rest place k len same there e = let yes : c ≡ true = sym same in rw yes (omega arith, omega arith)
@@ -128,7 +120,7 @@ first-named name [] (suc k) x e = let never : None ≡ Some x = e in absurd (cc)
 first-named name (y ∷ ys) zero x e = let never : None ≡ Some x = e in absurd (cc)
 first-named name (y ∷ ys) (suc k) x e =
     first-step (has_name name y) (bytes_eq name y.name) y x (module_named (take k ys) name) (place_of name ys) k (length ys)
-    (same-name name y) (first-named name ys k x) e
+    refl (first-named name ys k x) e
 
 number-is_place : (test : List ℕ → Bool) (names : List (List ℕ)) → position_or_len test names < length names → unwrap_or (position test names) 0 ≡ position_or_len test names
 number-is_place test names within = rw (lt-ltb (position_or_len test names) (length names) within) refl

@@ -12,12 +12,17 @@ CannotFetch holds faults_before faults_now failed name =
     ⊎ (Rose faults_before faults_now × (failed ≡ Some name))
 
 -- the name is that of a file which a line of the script fetches
-pub record AsksByLine (holds : Option Files) (script_name name : List ℕ) : Type 0 where
-  pub script : List ℕ
+pub record AsksInScript (script name : List ℕ) : Type 0 where
   pub commands : List Command
-  pub told : (files : Files) → holds ≡ Some files → held files script_name ≡ Some script
   pub reads : script_of script ≡ Ok commands
   pub asks : Any (λ command. Fetches command name) commands
+
+-- the name is that of a file which a line of the named script fetches; where the shelf tells its files it is the script
+-- that it holds
+pub record AsksByLine (holds : Option Files) (script_name name : List ℕ) : Type 0 where
+  pub script : List ℕ
+  pub told : (files : Files) → holds ≡ Some files → held files script_name ≡ Some script
+  pub line : AsksInScript script name
 
 -- the name is the script's, or that of a file which one of its lines fetches
 abbrev pub Asks : Option Files → List (List ℕ) → List ℕ → Type 0

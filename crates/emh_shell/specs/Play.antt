@@ -91,11 +91,15 @@ fault_line TooManyLines = codes "script has too many lines\n"
 fault_line (BadLine line) = codes "bad line " ++ (decimal line ++ codes "\n")
 fault_line NoMemory = []
 
--- a script of at most 67,108,864 bytes is played line by line, once each of its lines is a command
+-- a script is played line by line, once each of its lines is a command
+abbrev pub PlaysLines : Files → List ℕ → List ℕ → ℕ → Type 0
+PlaysLines files script text status =
+    MatchResult (script_of script) (λ commands. Plays files start commands text status) (λ fault. (text ≡ fault_line fault) × (status ≡ 2))
+
+-- and where it has at most 67,108,864 bytes
 abbrev pub PlaysScript : Files → List ℕ → List ℕ → ℕ → Type 0
 PlaysScript files script text status =
-    MatchBool (nat_lt FILE_LIMIT (length script)) ((text ≡ codes "script too long\n") × (status ≡ 2))
-    (MatchResult (script_of script) (λ commands. Plays files start commands text status) (λ fault. (text ≡ fault_line fault) × (status ≡ 2)))
+    MatchBool (nat_lt FILE_LIMIT (length script)) ((text ≡ codes "script too long\n") × (status ≡ 2)) (PlaysLines files script text status)
 
 -- The plain session of a command line's words over files: its text and its status. The one word is the script's name.
 abbrev pub Play : Files → List (List ℕ) → List ℕ → ℕ → Type 0

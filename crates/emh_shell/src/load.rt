@@ -19,10 +19,10 @@ pub fn open_file(alloc: Global, bytes: &[u8], top: &Name) -> Result<LoadReply, N
     ensures { IfOk result (IsReading bytes.now top.now) }
 {
     match read_plain(alloc, bytes) {
-        Ok(plain) => Ok(match open_design(alloc, plain, top)? {
-            Some(design) => LoadReply::Opened(design),
-            None => LoadReply::NotBuilt,
-        }),
+        Ok(plain) => match open_design(alloc, plain, top)? {
+            Some(design) => Ok(LoadReply::Opened(design)),
+            None => Ok(LoadReply::NotBuilt),
+        },
         Err(PlainFault::NotPlain) => Ok(LoadReply::NotBuilt),
         Err(PlainFault::NoMemory) => Err(NoMemory),
     }

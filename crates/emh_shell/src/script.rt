@@ -13,7 +13,8 @@ use crate::fault::{LINE_LIMIT, ScriptFault};
 /// The commands of a script, in order. Its lines end with a newline; a last piece that isn't empty is a line too.
 /// The number of lines is looked at before what they say.
 pub fn read_script(alloc: Global, bytes: &[u8]) -> Result<List<Command>, ScriptFault>
-    ensures { IsScriptAnswer (script_of bytes.now) result }
+    ensures answer { IsScriptAnswer (script_of bytes.now) result }
+    ensures few { IfOk result (λ commands. length commands ≤ 1000000) }
 {
     let lines = read_lines(alloc, bytes)?;
     if lines.len() > LINE_LIMIT {
@@ -39,7 +40,8 @@ fn read_lines(alloc: Global, bytes: &[u8]) -> Result<Vec<&[u8]>, NoMemory>
 
 fn read_commands(alloc: Global, lines: &[&[u8]]) -> Result<List<Command>, ScriptFault>
     requires { length lines.now ≤ 1000000 }
-    ensures { IsScriptAnswer (commands_of 1 (texts lines.now)) result }
+    ensures answer { IsScriptAnswer (commands_of 1 (texts lines.now)) result }
+    ensures few { IfOk result (λ commands. length commands ≤ 1000000) }
 {
     let mut commands = List::new(alloc);
     for (at, line) in lines.iter().enumerate() {

@@ -1,4 +1,4 @@
-use Rattle.std.specs.Prelude.{◌≡◌, ℕ, Bool, ◌&&◌, not, List, [], ◌∷◌, ◌++◌, map, find, Option, Some, None, IsTrue, bytes_eq, All, Contains, MatchOption}
+use Rattle.std.specs.Prelude.{◌≡◌, ℕ, not, List, [], ◌∷◌, ◌++◌, map, find, Option, Some, None, IsTrue, bytes_eq, All, Contains, MatchOption}
 use Rattle.std.specs.List.{list_any, IsDistinct}
 use Rattle.word_table.specs.Reserved.{reserved_texts}
 use Rattle.vlog_read.specs.declared.netlist.Netlist.{Netlist}
@@ -17,7 +17,7 @@ abbrev pub net_names : Module → List (List ℕ)
 net_names m = map (λ port. port.name) m.ports ++ m.wires
 
 abbrev pub module_named : List Module → List ℕ → Option Module
-module_named modules name = find (λ m. bytes_eq m.name name) modules
+module_named modules name = find (λ m. bytes_eq name m.name) modules
 
 -- an instance of a module that stands earlier; each pin is one of its ports, no port twice, on a net of the module
 pub record IsInstance (earlier : List Module) (nets : List (List ℕ)) (i : Instance) : Type 0 where

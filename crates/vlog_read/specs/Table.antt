@@ -34,7 +34,7 @@ dir_of (Some line) = line.dir
 
 -- a port has its inner net's id, and the direction of its line
 abbrev pub port_of : Module → List ℕ → PPort
-port_of m name = record { net = record { 0 = number_of (net_names m) name }; dir = dir_of (find (λ line. bytes_eq line.name name) m.ports) }
+port_of m name = record { net = record { 0 = number_of (net_names m) name }; dir = dir_of (find (λ line. bytes_eq name line.name) m.ports) }
 
 -- a port that no pin names is open
 abbrev pub conn_of : List (List ℕ) → Option PinOn → Conn
@@ -51,7 +51,7 @@ inst_of modules nets n i = record {
   id = record { 0 = n };
   name = i.name;
   master = record { 0 = number_of (map (λ m. m.name) modules) i.master };
-  conns = map (λ port. conn_of nets (find (λ pin. bytes_eq pin.port port) i.pins)) (head_of (module_named modules i.master));
+  conns = map (λ port. conn_of nets (find (λ pin. bytes_eq port pin.port) i.pins)) (head_of (module_named modules i.master));
 }
 
 abbrev pub module_of : List Module → Bool → ℕ → Module → PModule
@@ -71,6 +71,6 @@ module_of modules leaf n m = record {
 abbrev pub table : Netlist → Plain
 table n = record {
   modules = numbered (module_of (all_modules n) true) 0 (cells_of n)
-    ++ numbered (module_of (all_modules n) false) (length (cells_of n)) n.modules;
+      ++ numbered (module_of (all_modules n) false) (length (cells_of n)) n.modules;
   next_module = length (all_modules n);
 }

@@ -1,0 +1,6 @@
+pub mod BookLemmas
+pub mod FileLemmas
+pub mod ModuleLemmas
+pub mod NumberedLemmas
+pub mod PlaceLemmas
+pub mod ReadingLemmas
