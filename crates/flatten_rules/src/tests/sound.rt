@@ -11,7 +11,7 @@ use emh_base::{Name, NoMemory, PInst, PModule, PNet, Plain, Pool, Range, TryCopy
 use std::alloc::Global;
 
 /// Whether a table is sound.
-pub fn is_sound(alloc: Global, plain: &Plain) -> Result<bool, NoMemory>
+pub(crate) fn is_sound(alloc: Global, plain: &Plain) -> Result<bool, NoMemory>
     ensures { IfOk result (λ sound. IsTrue sound → IsSound plain.now) }
 {
     if !have_own_names(alloc, plain)? {

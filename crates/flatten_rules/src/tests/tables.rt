@@ -7,7 +7,7 @@ use std::alloc::Global;
 const NEXT: u32 = 1000;
 
 /// A table of no modules.
-pub fn empty_table(alloc: Global) -> Plain {
+pub(crate) fn empty_table(alloc: Global) -> Plain {
     Plain {
         modules: List::new(alloc),
         next_module: NEXT,
@@ -15,7 +15,7 @@ pub fn empty_table(alloc: Global) -> Plain {
 }
 
 /// A module with an instance of each master.
-pub fn add_module(
+pub(crate) fn add_module(
     alloc: Global,
     plain: &mut Plain,
     id: u32,
@@ -36,7 +36,7 @@ pub fn add_module(
 }
 
 /// A module with a net of each width.
-pub fn add_nets(
+pub(crate) fn add_nets(
     alloc: Global,
     plain: &mut Plain,
     id: u32,
@@ -60,7 +60,7 @@ pub fn add_nets(
 }
 
 /// Module 0 holds nothing, and each of the others two instances of the one before it.
-pub fn levels(alloc: Global, top: u32) -> Result<Plain, NoMemory> {
+pub(crate) fn levels(alloc: Global, top: u32) -> Result<Plain, NoMemory> {
     let mut plain = empty_table(alloc);
     add_module(alloc, &mut plain, 0, &[])?;
     for level in 0..top {
@@ -70,7 +70,7 @@ pub fn levels(alloc: Global, top: u32) -> Result<Plain, NoMemory> {
 }
 
 /// Module 0 holds nothing, and each of the others one instance of the one before it.
-pub fn chain(alloc: Global, top: u32) -> Result<Plain, NoMemory> {
+pub(crate) fn chain(alloc: Global, top: u32) -> Result<Plain, NoMemory> {
     let mut plain = empty_table(alloc);
     add_module(alloc, &mut plain, 0, &[])?;
     for link in 0..top {
