@@ -4,3 +4,4 @@ pub mod Extents
 pub mod Walks
 pub mod Counted
 pub mod Within
+pub mod Rising

@@ -14,3 +14,6 @@ pub use limits::is_within;
 pub use lookup::{find, module_of, net_of, place_of_module, width};
 pub use numbered::{Numbered, place_of};
 pub use root::Root;
+
+#[cfg(test)]
+mod tests;

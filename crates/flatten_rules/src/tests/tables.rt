@@ -1,0 +1,110 @@
+ghost use Rattle.std.specs.Prelude.{◌<◌, ◌≤◌};
+
+use emh_base::{InstId, List, ModId, Name, NetId, NoMemory, PInst, PModule, PNet, Plain, Range};
+use std::alloc::Global;
+
+/// The counter that all test tables have: ids are below it.
+const NEXT: u32 = 1000;
+
+/// A table of no modules.
+pub(crate) fn empty_table(alloc: Global) -> Plain {
+    Plain {
+        modules: List::new(alloc),
+        next_module: NEXT,
+    }
+}
+
+/// A module with an instance of each master.
+pub(crate) fn add_module(
+    alloc: Global,
+    plain: &mut Plain,
+    id: u32,
+    masters: &[u32],
+) -> Result<(), NoMemory> {
+    let mut insts = List::new(alloc);
+    let mut number: u32 = 0;
+    for master in masters {
+        insts.push(PInst {
+            id: InstId(number),
+            name: name_of(alloc, number)?,
+            master: ModId(*master),
+            conns: List::new(alloc),
+        })?;
+        number = number.saturating_add(1);
+    }
+    add(alloc, plain, id, false, List::new(alloc), insts)
+}
+
+/// A module with a net of each width.
+pub(crate) fn add_nets(
+    alloc: Global,
+    plain: &mut Plain,
+    id: u32,
+    leaf: bool,
+    widths: &[u32],
+) -> Result<(), NoMemory> {
+    let mut nets = List::new(alloc);
+    let mut number: u32 = 0;
+    for width in widths {
+        nets.push(PNet {
+            id: NetId(number),
+            name: name_of(alloc, number)?,
+            range: Some(Range {
+                left: 0,
+                right: width.saturating_sub(1),
+            }),
+        })?;
+        number = number.saturating_add(1);
+    }
+    add(alloc, plain, id, leaf, nets, List::new(alloc))
+}
+
+/// Module 0 holds nothing, and each of the others two instances of the one before it.
+pub(crate) fn levels(alloc: Global, top: u32) -> Result<Plain, NoMemory> {
+    let mut plain = empty_table(alloc);
+    add_module(alloc, &mut plain, 0, &[])?;
+    for level in 0..top {
+        add_module(alloc, &mut plain, level + 1, &[level, level])?;
+    }
+    Ok(plain)
+}
+
+/// Module 0 holds nothing, and each of the others one instance of the one before it.
+pub(crate) fn chain(alloc: Global, top: u32) -> Result<Plain, NoMemory> {
+    let mut plain = empty_table(alloc);
+    add_module(alloc, &mut plain, 0, &[])?;
+    for link in 0..top {
+        add_module(alloc, &mut plain, link + 1, &[link])?;
+    }
+    Ok(plain)
+}
+
+fn add(
+    alloc: Global,
+    plain: &mut Plain,
+    id: u32,
+    leaf: bool,
+    nets: List<PNet>,
+    insts: List<PInst>,
+) -> Result<(), NoMemory> {
+    plain.modules.push(PModule {
+        id: ModId(id),
+        name: name_of(alloc, id)?,
+        leaf,
+        locked: false,
+        nets,
+        ports: List::new(alloc),
+        insts,
+        next_net: NEXT,
+        next_inst: NEXT,
+    })
+}
+
+/// A name for a number.
+fn name_of(alloc: Global, number: u32) -> Result<Name, NoMemory> {
+    let text = number.to_string(alloc)?;
+    match Name::new(alloc, text.as_bytes()) {
+        Ok(name) => Ok(name),
+        Err(_) => Err(NoMemory),
+    }
+}
