@@ -1,4 +1,8 @@
-use super::{Name, Pool};
+use super::{
+    Conn, Dir, InstId, List, ModId, Name, NameFault, NetId, PInst, PModule, PNet, PPort, Path,
+    Plain, Pool, Range, Src, TryCopy, push_index, push_spelled,
+};
+use std::alloc::Global;
 use std::test::Fail;
 
 #[test]
@@ -21,5 +25,130 @@ fn a_pool_numbers_names_in_the_order_in_which_they_come(rt: HostRuntime) -> Resu
     }
     assert_eq!(rt; pool.len(), 4);
     assert_eq!(rt; pool.find(b"u2"), None);
+    Ok(())
+}
+
+#[test]
+fn a_name_has_1_to_1024_printable_bytes(rt: HostRuntime) -> Result<(), Fail> {
+    let longest = [b'~'; 1024];
+    let too_long = [b'!'; 1025];
+    assert_eq!(rt;
+        Name::new(rt.alloc(), &longest)?.as_bytes(),
+        longest.as_slice()
+    );
+    let refused: [(&[u8], NameFault); 6] = [
+        (b"", NameFault::Empty),
+        (&too_long, NameFault::TooLong),
+        (b" a", NameFault::BadByte { at: 0 }),
+        (b"ab\x7f", NameFault::BadByte { at: 2 }),
+        (b"a\x1fb\x80", NameFault::BadByte { at: 1 }),
+        (b"a\n", NameFault::BadByte { at: 1 }),
+    ];
+    for (bytes, fault) in refused {
+        match Name::new(rt.alloc(), bytes) {
+            Ok(_) => assert!(rt; false, "{bytes:?} is a name"),
+            Err(found) => assert_eq!(rt; found, fault),
+        }
+    }
+    Ok(())
+}
+
+#[test]
+fn texts_mark_what_would_be_read_otherwise(rt: HostRuntime) -> Result<(), Fail> {
+    let cases: [(&[u8], &[u8]); 5] = [
+        (b"u1", b"u1"),
+        (b"bus[3]", b"bus\\[3\\]"),
+        (b"=a=b", b"\\=a=b"),
+        (b"x.y/z", b"x\\.y\\/z"),
+        (b"\\", b"\\\\"),
+    ];
+    for (name, text) in cases {
+        let mut out = List::new(rt.alloc());
+        push_spelled(&mut out, &Name::new(rt.alloc(), name)?)?;
+        assert_eq!(rt; out.as_slice(), text);
+    }
+    let indices: [(Option<Range>, u16, &[u8]); 4] = [
+        (None, 0, b""),
+        (Some(Range { left: 3, right: 0 }), 0, b"[3]"),
+        (Some(Range { left: 3, right: 0 }), 3, b"[0]"),
+        (Some(Range { left: 7, right: 19 }), 4, b"[11]"),
+    ];
+    for (range, offset, text) in indices {
+        let mut out = List::new(rt.alloc());
+        push_index(&mut out, range, offset)?;
+        assert_eq!(rt; out.as_slice(), text);
+    }
+    Ok(())
+}
+
+fn one_instance(alloc: Global) -> Result<Plain, Fail> {
+    let mut bits = List::new(alloc);
+    bits.push(Src::Bit(NetId(2), 5))?;
+    bits.push(Src::Tie1)?;
+    let mut conns = List::new(alloc);
+    conns.push(Conn::Bits(bits))?;
+    conns.push(Conn::Open)?;
+    let mut insts = List::new(alloc);
+    insts.push(PInst {
+        id: InstId(4),
+        name: Name::new(alloc, b"u4")?,
+        master: ModId(1),
+        conns,
+    })?;
+    let mut nets = List::new(alloc);
+    nets.push(PNet {
+        id: NetId(2),
+        name: Name::new(alloc, b"n")?,
+        range: Some(Range { left: 7, right: 0 }),
+    })?;
+    let mut ports = List::new(alloc);
+    ports.push(PPort {
+        net: NetId(2),
+        dir: Dir::Inout,
+    })?;
+    let mut modules = List::new(alloc);
+    modules.push(PModule {
+        id: ModId(3),
+        name: Name::new(alloc, b"m")?,
+        leaf: false,
+        locked: true,
+        nets,
+        ports,
+        insts,
+        next_net: 3,
+        next_inst: 5,
+    })?;
+    Ok(Plain {
+        modules,
+        next_module: 4,
+    })
+}
+
+#[test]
+fn a_copy_of_a_table_has_all_that_the_table_has(rt: HostRuntime) -> Result<(), Fail> {
+    let copy = one_instance(rt.alloc())?.copy()?;
+    assert_eq!(rt; copy.next_module, 4);
+    let module = copy.modules.get(0).ok_or("no module")?;
+    assert_eq!(rt;
+        (module.id, module.leaf, module.locked),
+        (ModId(3), false, true)
+    );
+    assert_eq!(rt; (module.next_net, module.next_inst), (3, 5));
+    let net = module.nets.get(0).ok_or("no net")?;
+    assert_eq!(rt;
+        (net.id, net.range),
+        (NetId(2), Some(Range { left: 7, right: 0 }))
+    );
+    let inst = module.insts.get(0).ok_or("no instance")?;
+    assert_eq!(rt; inst.name.as_bytes(), b"u4".as_slice());
+    match inst.conns.get(0) {
+        Some(Conn::Bits(bits)) => assert_eq!(rt; bits.get(0), Some(&Src::Bit(NetId(2), 5))),
+        _ => assert!(rt; false, "the first port is open"),
+    }
+    let mut path = Path::new(rt.alloc());
+    for step in 0..10 {
+        path.push(InstId(step))?;
+    }
+    assert_eq!(rt; path.copy()?.steps(), path.steps());
     Ok(())
 }
