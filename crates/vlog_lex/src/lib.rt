@@ -1,0 +1,22 @@
+//! The tokens of a netlist: from bytes to identifiers, reserved words, numbers, literals and marks, in one pass.
+#![tactic(auto)]
+
+mod attribute;
+mod case;
+mod class;
+mod directive;
+mod found;
+mod lexer;
+mod number;
+mod piece;
+mod place;
+mod token;
+
+pub use lexer::tokens;
+pub use token::{LexFault, Token, TokenKind, Tokens};
+
+/// The most bytes that a netlist may have.
+pub const FILE_LIMIT: usize = 67_108_864;
+
+#[cfg(test)]
+mod tests;

@@ -1,0 +1,191 @@
+ghost use Rattle.std.specs.Prelude.{◌≡◌, ◌+◌, ◌<◌, ◌≤◌, ◌^◌, true, length, slice_index, slice_range, IsTrue, IfOk, IfErr};
+ghost use Rattle.std.specs.Option.{SomeIff};
+ghost use Rattle.emh_base.specs.Name.{IsName};
+ghost use Rattle.vlog_lex.specs.Byte.{begins_word, is_digit};
+ghost use Rattle.vlog_lex.specs.Number.{written};
+ghost use Rattle.vlog_lex.specs.Piece.{case_of, Piece, PieceBy, NumberIs, word_kind};
+ghost use Rattle.vlog_lex.specs.Found.{Finds};
+
+use crate::FILE_LIMIT;
+use crate::attribute::attribute_end;
+use crate::case::Case;
+use crate::class::Class;
+use crate::directive::directive;
+use crate::found::Found;
+use crate::number::{are_digits, base_of, decimal, low_bits};
+use crate::place::{byte_at, comment_end, line_end};
+use crate::token::{LexFault, TokenKind};
+use emh_base::{Name, NameFault};
+use std::alloc::Global;
+use word_table::reserved_words;
+
+/// The most bytes that a name may have.
+const NAME_LIMIT: usize = 1024;
+
+/// What stands at a place: the first rule that applies there is taken.
+pub fn piece(alloc: Global, bytes: &[u8], at: usize) -> Result<Found, LexFault>
+    requires place { at < length bytes.now }
+    requires limit { length bytes.now ≤ FILE_LIMIT }
+    ensures { Finds (Piece bytes.now at) result }
+{
+    match case_of(bytes[at], byte_at(bytes, at + 1)) {
+        Case::White => Ok(Found::blank(Class::White.run_end(bytes, at))),
+        Case::LineComment => Ok(Found::blank(line_end(bytes, at + 2))),
+        Case::BlockComment => block_comment(bytes, at),
+        Case::Attribute => attribute(bytes, at),
+        Case::Directive => directive(bytes, at),
+        Case::Escaped => escaped(alloc, bytes, at),
+        Case::Word => word(alloc, bytes, at),
+        Case::Number => number(bytes, at),
+        Case::Apostrophe => Err(LexFault::BadLiteral { at: at as u32 }),
+        Case::Mark => Ok(Found::token(at + 1, TokenKind::Mark(bytes[at]))),
+        Case::Unfit => Err(LexFault::BadByte { at: at as u32 }),
+    }
+}
+
+/// Which rule applies where two bytes stand.
+fn case_of(first: u8, second: u8) -> Case
+    ensures { result ≡ case_of first second }
+{
+    match first {
+        b' ' | b'\t' | b'\n' | 12 | b'\r' => Case::White,
+        b'/' if second == b'/' => Case::LineComment,
+        b'/' if second == b'*' => Case::BlockComment,
+        b'(' if second == b'*' => Case::Attribute,
+        b'`' => Case::Directive,
+        b'\\' => Case::Escaped,
+        b'A'..=b'Z' | b'a'..=b'z' | b'_' => Case::Word,
+        b'0'..=b'9' => Case::Number,
+        b'\'' => Case::Apostrophe,
+        33..=126 => Case::Mark,
+        _ => Case::Unfit,
+    }
+}
+
+/// The comment at a `/*`.
+fn block_comment(bytes: &[u8], at: usize) -> Result<Found, LexFault>
+    requires place { at + 2 ≤ length bytes.now }
+    requires limit { length bytes.now ≤ FILE_LIMIT }
+    ensures { Finds (PieceBy Case.BlockComment bytes.now at) result }
+{
+    match comment_end(bytes, at + 2) {
+        Some(end) => Ok(Found::blank(end + 2)),
+        None => Err(LexFault::OpenComment { at: at as u32 }),
+    }
+}
+
+/// The attribute at a `(*`.
+fn attribute(bytes: &[u8], at: usize) -> Result<Found, LexFault>
+    requires place { at + 2 ≤ length bytes.now }
+    requires limit { length bytes.now ≤ FILE_LIMIT }
+    ensures { Finds (PieceBy Case.Attribute bytes.now at) result }
+{
+    match attribute_end(bytes, at + 2) {
+        Some(end) => Ok(Found::blank(end + 2)),
+        None => Err(LexFault::OpenAttribute { at: at as u32 }),
+    }
+}
+
+/// The escaped identifier at a backslash.
+fn escaped(alloc: Global, bytes: &[u8], at: usize) -> Result<Found, LexFault>
+    requires place { at < length bytes.now }
+    requires limit { length bytes.now ≤ FILE_LIMIT }
+    ensures { Finds (PieceBy Case.Escaped bytes.now at) result }
+{
+    let end = Class::Graphic.run_end(bytes, at + 1);
+    if end == at + 1 {
+        return Err(LexFault::BadByte { at: at as u32 });
+    }
+    if end < bytes.len() && !Class::White.has(bytes[end]) {
+        return Err(LexFault::BadByte { at: end as u32 });
+    }
+    if end > at + 1 + NAME_LIMIT {
+        return Err(LexFault::LongName { at: at as u32 });
+    }
+    let name = name_of(alloc, &bytes[at + 1..end])?;
+    Ok(Found::token(end, TokenKind::Ident(name)))
+}
+
+/// The word that begins at a place.
+fn word(alloc: Global, bytes: &[u8], at: usize) -> Result<Found, LexFault>
+    requires place { at < length bytes.now }
+    requires limit { length bytes.now ≤ FILE_LIMIT }
+    requires first { IsTrue (begins_word (slice_index bytes.now at)) }
+    ensures { Finds (PieceBy Case.Word bytes.now at) result }
+{
+    let end = Class::Word.run_end(bytes, at);
+    if end > at + NAME_LIMIT {
+        return Err(LexFault::LongName { at: at as u32 });
+    }
+    let kind = word_kind(alloc, &bytes[at..end])?;
+    Ok(Found::token(end, kind))
+}
+
+/// A reserved word, or else the identifier of that name.
+fn word_kind(alloc: Global, text: &[u8]) -> Result<TokenKind, LexFault>
+    requires { IsName text.now }
+    ensures ok { IfOk result (λ kind. kind ≡ word_kind text.now) }
+    ensures err { IfErr result (λ fault. fault ≡ LexFault.NoMemory) }
+{
+    match reserved_words().find(text) {
+        Some(row) => Ok(TokenKind::Reserved(row)),
+        None => Ok(TokenKind::Ident(name_of(alloc, text)?)),
+    }
+}
+
+/// The name of bytes that are known to be one's.
+fn name_of(alloc: Global, text: &[u8]) -> Result<Name, LexFault>
+    requires { IsName text.now }
+    ensures ok { IfOk result (λ name. name ≡ text.now) }
+    ensures err { IfErr result (λ fault. fault ≡ LexFault.NoMemory) }
+{
+    match Name::new(alloc, text) {
+        Ok(name) => Ok(name),
+        Err(NameFault::NoMemory) => Err(LexFault::NoMemory),
+        Err(NameFault::Empty) => unreachable!("a name has a byte"),
+        Err(NameFault::TooLong) => unreachable!("a name is short"),
+        Err(NameFault::BadByte { .. }) => unreachable!("a name is printable"),
+    }
+}
+
+/// The number or literal that begins at a place.
+fn number(bytes: &[u8], at: usize) -> Result<Found, LexFault>
+    requires place { at < length bytes.now }
+    requires limit { length bytes.now ≤ FILE_LIMIT }
+    ensures { Finds (PieceBy Case.Number bytes.now at) result }
+{
+    let end = Class::Number.run_end(bytes, at);
+    let value = decimal(&bytes[at..end]);
+    if byte_at(bytes, end) == b'\'' {
+        return literal(bytes, at, end, value);
+    }
+    match value {
+        Some(value) => Ok(Found::token(end, TokenKind::Number(value))),
+        None => Err(LexFault::BadLiteral { at: at as u32 }),
+    }
+}
+
+/// The literal at a place whose digits before the apostrophe write `size`, if that fits in 32 bits.
+fn literal(bytes: &[u8], at: usize, apostrophe: usize, size: Option<u32>) -> Result<Found, LexFault>
+    requires place { at ≤ apostrophe }
+    requires within { apostrophe < length bytes.now }
+    requires limit { length bytes.now ≤ FILE_LIMIT }
+    requires here { slice_index bytes.now apostrophe ≡ 39 }
+    requires size { SomeIff size (written 10 (slice_range bytes.now at apostrophe) < 2 ^ 32) (written 10 (slice_range bytes.now at apostrophe)) }
+    ensures { Finds (NumberIs true bytes.now at apostrophe) result }
+{
+    let fault = LexFault::BadLiteral { at: at as u32 };
+    let Some(base) = base_of(byte_at(bytes, apostrophe + 1)) else {
+        return Err(fault);
+    };
+    let end = Class::Literal.run_end(bytes, apostrophe + 2);
+    let digits = &bytes[apostrophe + 2..end];
+    let Some(size) = size else {
+        return Err(fault);
+    };
+    if size < 1 || size > 128 || !are_digits(base, digits) {
+        return Err(fault);
+    }
+    let value = low_bits(base, size as u8, digits);
+    Ok(Found::token(end, TokenKind::Literal { size: size as u8, value }))
+}

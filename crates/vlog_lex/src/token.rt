@@ -1,0 +1,64 @@
+use emh_base::{List, Name};
+
+/// The tokens of a file in order, and how many bytes the file has.
+#[derive(Debug, Drop)]
+pub struct Tokens {
+    pub items: List<Token>,
+    pub len: u32,
+}
+
+/// A token that stands from the byte at `at` to the byte before `end`, both counted from 0.
+#[derive(Debug, Drop)]
+pub struct Token {
+    pub kind: TokenKind,
+    pub at: u32,
+    pub end: u32,
+}
+
+/// What a token is.
+#[derive(Debug, Drop)]
+pub enum TokenKind {
+    /// An identifier; an escaped one without its backslash.
+    Ident(Name),
+    /// A reserved word, by its row in [`word_table::reserved_words`].
+    Reserved(u16),
+    /// `` `celldefine ``
+    Cell,
+    /// `` `endcelldefine ``
+    EndCell,
+    /// A number without a base.
+    Number(u32),
+    /// `size` bits, 1 to 128; `value` is the number that is written, modulo 2 to the power of `size`.
+    Literal { size: u8, value: u128 },
+    /// One byte that stands for itself.
+    Mark(u8),
+}
+
+/// Why bytes are no tokens; `at` is the place of the fault, counted from 0.
+#[derive(Clone, Copy, Debug, PartialEq, Eq)]
+pub enum LexFault {
+    /// A byte that may not stand here.
+    BadByte { at: u32 },
+    /// A `/*` without a `*/`.
+    OpenComment { at: u32 },
+    /// A `(*` without a `*)`.
+    OpenAttribute { at: u32 },
+    /// A number above 4,294,967,295, a literal of a wrong size, base or digit, or a `'` on its own.
+    BadLiteral { at: u32 },
+    /// An identifier of more than 1,024 bytes.
+    LongName { at: u32 },
+    /// A directive that isn't accepted.
+    Directive { at: u32 },
+    NoMemory,
+}
+
+impl From<emh_base::NoMemory> for LexFault {
+    ghost use Rattle.std.specs.Prelude.{◌≡◌};
+    ghost use Rattle.vlog_lex.specs.declared.token.LexFault.TheVariants.{NoMemory as no_memory};
+
+    ghost from_gives = { λ _ fault. fault ≡ no_memory };
+
+    fn from(_: emh_base::NoMemory) -> LexFault {
+        LexFault::NoMemory
+    }
+}
