@@ -1,11 +1,11 @@
 -- The parts of strings and of attributes are a walk.
 use Rattle.std.proofs.Common.{◌≡◌, ◌≢◌, refl, sym, ◌∙◌, ap, subst, ℕ, ◌+◌, ◌<◌, ◌≤◌, Bool, true, false, ◌&&◌, nat_eq, List, [], ◌∷◌, length, get_or, arith, inl, inr, ◌⊎◌}
 use Rattle.std.proofs.lemmas.List.{get_or_past}
-use Rattle.std.proofs.lemmas.Bool.{and_parts, eqb-true, both_ways}
+use Rattle.std.proofs.lemmas.Bool.{and_parts, eqb-true, both_ways, cases_eq, cases_Bool}
 use Rattle.vlog_lex.specs.Byte.{quote, backslash, star, right_parenthesis}
 use Rattle.vlog_lex.specs.Place.{both_at}
 use Rattle.vlog_lex.specs.Attribute.{Through, StringPart, EndsString, AttributePart, EndsAttribute}
-use Rattle.vlog_lex.proofs.Walk.{Walks, over_once, through_onward, ahead, stays, through_more}
+use Rattle.vlog_lex.proofs.Walk.{Walks, over_once, through_onward, ahead, stays, through_more, over_or_not, Place, ends, goes, stuck}
 
 abbrev pub IsQuote : List ℕ → ℕ → Type 0
 IsQuote bytes e = get_or bytes e 0 ≡ quote
@@ -104,3 +104,45 @@ string_more bytes a b e way quoted string = through_more (AttributePart bytes) a
 pub byte_more : (bytes : List ℕ) (a b : ℕ) → Through (AttributePart bytes) a b → get_or bytes b 0 ≢ quote
     → both_at star right_parenthesis bytes b ≡ false → Through (AttributePart bytes) a (b + 1)
 byte_more bytes a b way other close = through_more (AttributePart bytes) a b (b + 1) way (inr (other, close, refl))
+
+-- a string has an end or none, and so has an attribute
+quote_place : (bytes : List ℕ) (a : ℕ) → Place (StringPart bytes) (IsQuote bytes) a
+quote_place bytes a =
+    elim (cases_eq (get_or bytes a 0) quote) [
+      inl quoted ↦ ends quoted
+    | inr plain ↦ elim (cases_eq (get_or bytes a 0) backslash) [
+        inl slash ↦ goes (a + 2) (inl (slash, refl))
+      | inr other ↦ goes (a + 1) (inr (other, plain, refl))
+      ]
+    ]
+
+string_or_not : (bytes : List ℕ) (a : ℕ) → ((e : ℕ) × EndsString bytes a e) ⊎ ((e : ℕ) → EndsString bytes a e → ⊥)
+string_or_not bytes a =
+    elim (over_or_not (StringPart bytes) (IsQuote bytes) (strings bytes) (quote_place bytes) (length bytes) (no_quote_past bytes) (length bytes) a (omega arith)) [
+      inl (e, way, over) ↦ inl (e, (way, over))
+    | inr none ↦ inr (λ e (way, over). none e way over)
+    ]
+
+close_place : (bytes : List ℕ) (a : ℕ) → Place (AttributePart bytes) (IsClose bytes) a
+close_place bytes a =
+    elim (cases_Bool (both_at star right_parenthesis bytes a)) [
+      inl close ↦ ends close
+    | inr on ↦ elim (cases_eq (get_or bytes a 0) quote) [
+        inl quoted ↦ elim (string_or_not bytes (a + 1)) [
+          inl (e, string) ↦ goes (e + 1) (inl (e, quoted, string, refl))
+        | inr none ↦ stuck (no_part quoted none) (λ close. both_ways _ on close)
+        ]
+      | inr other ↦ goes (a + 1) (inr (other, on, refl))
+      ]
+    ]
+  where
+    no_part : IsQuote bytes a → ((e : ℕ) → EndsString bytes (a + 1) e → ⊥) → (x : ℕ) → AttributePart bytes a x → ⊥
+    no_part quoted none x (inl (e, quoted', string, to)) = none e string
+    no_part quoted none x (inr (other, open', to)) = other quoted
+
+pub attribute_or_not : (bytes : List ℕ) (a : ℕ) → ((e : ℕ) × EndsAttribute bytes a e) ⊎ ((e : ℕ) → EndsAttribute bytes a e → ⊥)
+attribute_or_not bytes a =
+    elim (over_or_not (AttributePart bytes) (IsClose bytes) (attributes bytes) (close_place bytes) (length bytes) (no_close_past bytes) (length bytes) a (omega arith)) [
+      inl (e, way, over) ↦ inl (e, (way, over))
+    | inr none ↦ inr (λ e (way, over). none e way over)
+    ]

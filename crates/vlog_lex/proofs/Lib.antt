@@ -5,3 +5,7 @@ pub mod Numbers
 pub mod Names
 pub mod Finding
 pub mod Rows
+pub mod Told
+pub mod Pieces
+pub mod Readings
+pub mod OneAnswer

@@ -31,11 +31,11 @@ tokens_of a [] = []
 tokens_of a (step ∷ steps) = with_token step.kind a step.end (tokens_of step.end steps)
 
 -- these are the tokens of the bytes: pieces without a fault lead from 0 to the end
-abbrev pub Lexes : List ℕ → List Token → Type 0
+unfoldable pub Lexes : List ℕ → List Token → Type 0
 Lexes bytes tokens = (steps : List Step) × Leads bytes 0 steps (length bytes) × (tokens ≡ tokens_of 0 steps)
 
 -- the bytes have this fault: pieces without one lead from 0 to the piece that is it
-abbrev pub HasFault : List ℕ → LexFault → Type 0
+unfoldable pub HasFault : List ℕ → LexFault → Type 0
 HasFault bytes fault =
     (steps : List Step) × (a : ℕ) × (b : ℕ) × Leads bytes 0 steps a × Piece bytes a b (Fault fault)
 

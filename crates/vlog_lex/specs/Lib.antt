@@ -6,3 +6,4 @@ pub mod Number
 pub mod Piece
 pub mod Found
 pub mod Lexes
+pub mod Law

@@ -46,16 +46,20 @@ directive_of name =
     else (if bytes_eq name (codes "default_nettype") then DefaultNettype
     else Other)))
 
+-- the default net type at a, with spaces or tabs from n to w and a word from there to b: only `wire` is accepted
+abbrev pub default_nettype : List ℕ → ℕ → ℕ → ℕ → ℕ → Kind
+default_nettype bytes a n w b =
+    if nat_lt n w && bytes_eq (slice_range bytes w b) (codes "wire") then Blank else Fault (fault.Directive a)
+
 -- the directive at a whose name ends before n is the piece from a to b
 abbrev pub DirectiveIs : directives.Directive → List ℕ → ℕ → ℕ → ℕ → Kind → Type 0
 DirectiveIs Cell bytes a n b kind = (b ≡ n) × (kind ≡ Tok token.Cell)
 DirectiveIs EndCell bytes a n b kind = (b ≡ n) × (kind ≡ Tok token.EndCell)
 -- the rest of the line goes with it
 DirectiveIs Timescale bytes a n b kind = IsFirst (ends_line bytes) n b × (kind ≡ Blank)
--- spaces or tabs from n to w, and then the word `wire`
+-- and so do the blanks and the word after it
 DirectiveIs DefaultNettype bytes a n b kind =
-    (w : ℕ) × IsRun is_blank bytes n w × IsRun is_word_byte bytes w b
-    × (kind ≡ (if nat_lt n w && bytes_eq (slice_range bytes w b) (codes "wire") then Blank else Fault (fault.Directive a)))
+    (w : ℕ) × IsRun is_blank bytes n w × IsRun is_word_byte bytes w b × (kind ≡ default_nettype bytes a n w b)
 DirectiveIs Other bytes a n b kind = (b ≡ n) × (kind ≡ Fault (fault.Directive a))
 
 -- the escaped identifier at a whose run of graphic bytes ends before b

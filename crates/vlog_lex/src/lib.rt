@@ -6,12 +6,14 @@ mod case;
 mod class;
 mod directive;
 mod found;
+mod law;
 mod lexer;
 mod number;
 mod piece;
 mod place;
 mod token;
 
+pub use law::one_answer;
 pub use lexer::tokens;
 pub use token::{LexFault, Token, TokenKind, Tokens};
 

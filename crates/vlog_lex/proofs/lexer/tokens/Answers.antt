@@ -1,0 +1,8 @@
+use Rattle.vlog_lex.proofs.OneAnswer.{each_list, each_fault}
+use Rattle.vlog_lex.proofs.lexer.tokens.Goals as goal
+
+pub returns-clause-each_list : goal.returns-clause-each_list
+returns-clause-each_list c = each_list c.args.bytes.now c.read.result c.read.ensures.tokens c.read.ensures.fault
+
+pub returns-clause-each_fault : goal.returns-clause-each_fault
+returns-clause-each_fault c = each_fault c.args.bytes.now c.read.result c.read.ensures.tokens c.read.ensures.fault
