@@ -24,9 +24,11 @@ strings bytes = record { goes_on = goes_on; onward = onward; once = once }
     goes_on : (a b : ℕ) → StringPart bytes a b → IsQuote bytes a → ⊥
     goes_on a b (inl (slash, to)) quoted = omega (arith, slash, quoted)
     goes_on a b (inr (other, plain, to)) quoted = plain quoted
+
     onward : (a b : ℕ) → StringPart bytes a b → a < b
     onward a b (inl (slash, to)) = omega arith
     onward a b (inr (other, plain, to)) = omega arith
+
     once : (a b c : ℕ) → StringPart bytes a b → StringPart bytes a c → b ≡ c
     once a b c (inl (slash, to)) (inl (slash', to')) = to ∙ sym to'
     once a b c (inl (slash, to)) (inr (other, plain, to')) = absurd (other slash)
@@ -42,10 +44,12 @@ attributes bytes = record { goes_on = goes_on; onward = onward; once = once }
     goes_on : (a b : ℕ) → AttributePart bytes a b → IsClose bytes a → ⊥
     goes_on a b (inl (e, quoted, string, to)) close = omega (arith, quoted, close_star bytes a close)
     goes_on a b (inr (other, open', to)) close = both_ways (both_at star right_parenthesis bytes a) open' close
+
     onward : (a b : ℕ) → AttributePart bytes a b → a < b
     onward a b (inl (e, quoted, string, to)) =
         omega (arith, through_onward (StringPart bytes) (IsQuote bytes) (strings bytes) (a + 1) e string.0)
     onward a b (inr (other, open', to)) = omega arith
+
     once : (a b c : ℕ) → AttributePart bytes a b → AttributePart bytes a c → b ≡ c
     once a b c (inl (e, quoted, string, to)) (inl (e', quoted', string', to')) =
         to ∙ ap (λ x. x + 1) (string_once bytes (a + 1) e e' string string') ∙ sym to'
@@ -109,30 +113,30 @@ byte_more bytes a b way other close = through_more (AttributePart bytes) a b (b 
 quote_place : (bytes : List ℕ) (a : ℕ) → Place (StringPart bytes) (IsQuote bytes) a
 quote_place bytes a =
     elim (cases_eq (get_or bytes a 0) quote) [
-      inl quoted ↦ ends quoted
-    | inr plain ↦ elim (cases_eq (get_or bytes a 0) backslash) [
-        inl slash ↦ goes (a + 2) (inl (slash, refl))
-      | inr other ↦ goes (a + 1) (inr (other, plain, refl))
+      | inl quoted ↦ ends quoted
+      | inr plain ↦ elim (cases_eq (get_or bytes a 0) backslash) [
+        | inl slash ↦ goes (a + 2) (inl (slash, refl))
+        | inr other ↦ goes (a + 1) (inr (other, plain, refl))
       ]
     ]
 
 string_or_not : (bytes : List ℕ) (a : ℕ) → ((e : ℕ) × EndsString bytes a e) ⊎ ((e : ℕ) → EndsString bytes a e → ⊥)
 string_or_not bytes a =
     elim (over_or_not (StringPart bytes) (IsQuote bytes) (strings bytes) (quote_place bytes) (length bytes) (no_quote_past bytes) (length bytes) a (omega arith)) [
-      inl (e, way, over) ↦ inl (e, (way, over))
-    | inr none ↦ inr (λ e (way, over). none e way over)
+      | inl (e, way, over) ↦ inl (e, (way, over))
+      | inr none ↦ inr (λ e (way, over). none e way over)
     ]
 
 close_place : (bytes : List ℕ) (a : ℕ) → Place (AttributePart bytes) (IsClose bytes) a
 close_place bytes a =
     elim (cases_Bool (both_at star right_parenthesis bytes a)) [
-      inl close ↦ ends close
-    | inr on ↦ elim (cases_eq (get_or bytes a 0) quote) [
-        inl quoted ↦ elim (string_or_not bytes (a + 1)) [
-          inl (e, string) ↦ goes (e + 1) (inl (e, quoted, string, refl))
-        | inr none ↦ stuck (no_part quoted none) (λ close. both_ways _ on close)
+      | inl close ↦ ends close
+      | inr on ↦ elim (cases_eq (get_or bytes a 0) quote) [
+        | inl quoted ↦ elim (string_or_not bytes (a + 1)) [
+          | inl (e, string) ↦ goes (e + 1) (inl (e, quoted, string, refl))
+          | inr none ↦ stuck (no_part quoted none) (λ close. both_ways _ on close)
         ]
-      | inr other ↦ goes (a + 1) (inr (other, on, refl))
+        | inr other ↦ goes (a + 1) (inr (other, on, refl))
       ]
     ]
   where
@@ -143,6 +147,6 @@ close_place bytes a =
 pub attribute_or_not : (bytes : List ℕ) (a : ℕ) → ((e : ℕ) × EndsAttribute bytes a e) ⊎ ((e : ℕ) → EndsAttribute bytes a e → ⊥)
 attribute_or_not bytes a =
     elim (over_or_not (AttributePart bytes) (IsClose bytes) (attributes bytes) (close_place bytes) (length bytes) (no_close_past bytes) (length bytes) a (omega arith)) [
-      inl (e, way, over) ↦ inl (e, (way, over))
-    | inr none ↦ inr (λ e (way, over). none e way over)
+      | inl (e, way, over) ↦ inl (e, (way, over))
+      | inr none ↦ inr (λ e (way, over). none e way over)
     ]

@@ -9,3 +9,4 @@ pub mod Told
 pub mod Pieces
 pub mod Readings
 pub mod OneAnswer
+pub mod Ranges

@@ -37,9 +37,9 @@ range_is_name bytes a b some few within each =
       some_byte = omega (arith, long);
       within_limit = omega (arith, long);
       printable = all_from is_name_byte (slice_range bytes a b) (λ k below.
-        let there : get_or (take (b - a) (drop a bytes)) k 0 ≡ get_or bytes (a + k) 0 =
-            get_or-take (b - a) (drop a bytes) k 0 (omega (arith, long, below)) ∙ get_or-drop a bytes k 0 in
-        ap is_name_byte there ∙ each (a + k) (omega arith) (omega (arith, long, below)));
+          let there : get_or (take (b - a) (drop a bytes)) k 0 ≡ get_or bytes (a + k) 0 =
+          get_or-take (b - a) (drop a bytes) k 0 (omega (arith, long, below)) ∙ get_or-drop a bytes k 0 in
+          ap is_name_byte there ∙ each (a + k) (omega arith) (omega (arith, long, below)));
     }
 
 -- a run of bytes that may stand in a name
@@ -52,10 +52,10 @@ run_is_name class bytes a b fits run some few within =
 pub run_some : (class : ℕ → Bool) (bytes : List ℕ) (a b : ℕ) → IsRun class bytes a b → class (get_or bytes a 0) ≡ true → a < b
 run_some class bytes a b run has =
     elim (cases_eq a b) [
-      inl same ↦
-        let ends : not (class (get_or bytes a 0)) ≡ true = subst (λ k. not (class (get_or bytes k 0)) ≡ true) (sym same) run.here in
-        absurd (both_ways (class (get_or bytes a 0)) (not-true (class (get_or bytes a 0)) ends) has)
-    | inr other ↦ omega (arith, run.from)
+      | inl same ↦
+          let ends : not (class (get_or bytes a 0)) ≡ true = subst (λ k. not (class (get_or bytes k 0)) ≡ true) (sym same) run.here in
+          absurd (both_ways (class (get_or bytes a 0)) (not-true (class (get_or bytes a 0)) ends) has)
+      | inr other ↦ omega (arith, run.from)
     ]
 
 -- the bytes of a word may stand in a name

@@ -45,12 +45,12 @@ written_mod : (base m v : ℕ) (digits : List ℕ) → written_after base (v % m
 written_mod base m v [] = mod-mod v m
 written_mod base m v (byte ∷ digits) =
     elim (nat_eq byte underscore) as (λ t. cond t (written_after base (v % m) digits) (written_after base ((v % m) * base + digit_of byte) digits) % m
-        ≡ cond t (written_after base v digits) (written_after base (v * base + digit_of byte) digits) % m) [
-      true ↦ written_mod base m v digits
-    | false ↦
-        sym (written_mod base m ((v % m) * base + digit_of byte) digits)
-        ∙ ap (λ x. written_after base x digits % m) (turn base v (digit_of byte) m)
-        ∙ written_mod base m (v * base + digit_of byte) digits
+    ≡ cond t (written_after base v digits) (written_after base (v * base + digit_of byte) digits) % m) [
+      | true ↦ written_mod base m v digits
+      | false ↦
+          sym (written_mod base m ((v % m) * base + digit_of byte) digits)
+          ∙ ap (λ x. written_after base x digits % m) (turn base v (digit_of byte) m)
+          ∙ written_mod base m (v * base + digit_of byte) digits
     ]
 
 -- one digit more, in arithmetic that wraps
@@ -68,7 +68,7 @@ pub lowest : (size v n : ℕ) → size < 128 → v % 2 ^ 128 ≡ n % 2 ^ 128 →
 lowest size v n small same =
     let parts : (128 - size) + size ≡ 128 = omega arith in
     let fold : (x : ℕ) → x % 2 ^ 128 % 2 ^ size ≡ x % 2 ^ size =
-        λ x. subst (λ k. x % 2 ^ k % 2 ^ size ≡ x % 2 ^ size) parts (mod-mod-pow x (128 - size) size) in
+    λ x. subst (λ k. x % 2 ^ k % 2 ^ size ≡ x % 2 ^ size) parts (mod-mod-pow x (128 - size) size) in
     rw (one_shl size 128 small) (sym (fold v) ∙ ap (λ x. x % 2 ^ size) same ∙ fold n)
 
 -- past the last digit the number stands

@@ -118,13 +118,13 @@ there White bytes a = let (b, run) = run_there is_white bytes a refl in (b, Blan
 there LineComment bytes a = let (b, line) = line_there bytes (a + 2) in (b, Blank, (line, refl))
 there BlockComment bytes a =
     elim (first_or_nowhere (both_at star slash bytes) (length bytes) (a + 2) (λ k past. no_end_past bytes k (omega arith))) [
-      inl (e, first) ↦ (e + 2, Blank, inl (e, first, refl, refl))
-    | inr none ↦ (a, _, inr (none, refl, refl))
+      | inl (e, first) ↦ (e + 2, Blank, inl (e, first, refl, refl))
+      | inr none ↦ (a, _, inr (none, refl, refl))
     ]
 there Attribute bytes a =
     elim (attribute_or_not bytes (a + 2)) [
-      inl (e, ends) ↦ (e + 2, Blank, inl (e, ends, refl, refl))
-    | inr none ↦ (a, _, inr (none, refl, refl))
+      | inl (e, ends) ↦ (e + 2, Blank, inl (e, ends, refl, refl))
+      | inr none ↦ (a, _, inr (none, refl, refl))
     ]
 there Directive bytes a =
     let (n, run) = run_there is_word_byte bytes (a + 1) refl in
@@ -185,8 +185,8 @@ directive_moves Other bytes a n b kind from within (to, is) sound = absurd (no_f
 base_there : (a size byte : ℕ) (digits : List ℕ) (kind : Kind) → kind ≡ literal a size (base_of byte) digits → IsSound kind → 0 < byte
 base_there a size byte digits kind is sound =
     elim (cases_eq byte 0) [
-      inl none ↦ absurd (no_fault kind _ (is ∙ ap (λ c. literal a size (base_of c) digits) none) sound)
-    | inr some ↦ omega arith
+      | inl none ↦ absurd (no_fault kind _ (is ∙ ap (λ c. literal a size (base_of c) digits) none) sound)
+      | inr some ↦ omega arith
     ]
 
 number_moves : (quoted : Bool) (bytes : List ℕ) (a n b : ℕ) (kind : Kind) → a < n → n ≤ length bytes

@@ -8,10 +8,10 @@ use Rattle.vlog_lex.specs.Place.{IsFirst, HoldsNowhere, IsRun, stops}
 pub first_once : (test : ℕ → Bool) (a b c : ℕ) → IsFirst test a b → IsFirst test a c → b ≡ c
 first_once test a b c some other =
     elim (cases_lt b c) [
-      inl below ↦ absurd (both_ways (test b) (other.before b some.from below) some.here)
-    | inr least ↦ elim (cases_lt c b) [
-        inl above ↦ absurd (both_ways (test c) (some.before c other.from above) other.here)
-      | inr most ↦ omega arith
+      | inl below ↦ absurd (both_ways (test b) (other.before b some.from below) some.here)
+      | inr least ↦ elim (cases_lt c b) [
+        | inl above ↦ absurd (both_ways (test c) (some.before c other.from above) other.here)
+        | inr most ↦ omega arith
       ]
     ]
 
@@ -19,8 +19,8 @@ first_once test a b c some other =
 pub first_within : (test : ℕ → Bool) (a b n : ℕ) → IsFirst test a b → a ≤ n → test n ≡ true → b ≤ n
 first_within test a b n first from holds =
     elim (cases_lt n b) [
-      inl below ↦ absurd (both_ways (test n) (first.before n from below) holds)
-    | inr most ↦ most
+      | inl below ↦ absurd (both_ways (test n) (first.before n from below) holds)
+      | inr most ↦ most
     ]
 
 -- where the test fails at a, what holds from the next place on holds from a on
@@ -39,11 +39,11 @@ pub first_there : (test : ℕ → Bool) (fuel a : ℕ) → test (a + fuel) ≡ t
 first_there test zero a holds = let same : a + 0 ≡ a = omega arith in (a, here test a (rw (← same) holds))
 first_there test (suc fuel) a holds =
     elim (cases_Bool (test a)) [
-      inl now ↦ (a, here test a now)
-    | inr fails ↦
-        let same : a + suc fuel ≡ (a + 1) + fuel = omega arith in
-        let (b, first) = first_there test fuel (a + 1) (rw (← same) holds) in
-        (b, later test a b fails first)
+      | inl now ↦ (a, here test a now)
+      | inr fails ↦
+          let same : a + suc fuel ≡ (a + 1) + fuel = omega arith in
+          let (b, first) = first_there test fuel (a + 1) (rw (← same) holds) in
+          (b, later test a b fails first)
     ]
 
 -- there is a first place, or none at all
@@ -52,12 +52,12 @@ pub first_or_nowhere : (test : ℕ → Bool) (fuel a : ℕ) → ((k : ℕ) → a
 first_or_nowhere test zero a past = inr (λ k least. past k (omega arith))
 first_or_nowhere test (suc fuel) a past =
     elim (cases_Bool (test a)) [
-      inl now ↦ inl (a, here test a now)
-    | inr fails ↦ elim (first_or_nowhere test fuel (a + 1) (λ k least. past k (omega arith))) [
-        inl (b, first) ↦ inl (b, later test a b fails first)
-      | inr none ↦ inr (λ k least. elim (cases_eq k a) [
-          inl same ↦ subst (λ j. test j ≡ false) (sym same) fails
-        | inr other ↦ none k (omega arith)
+      | inl now ↦ inl (a, here test a now)
+      | inr fails ↦ elim (first_or_nowhere test fuel (a + 1) (λ k least. past k (omega arith))) [
+        | inl (b, first) ↦ inl (b, later test a b fails first)
+        | inr none ↦ inr (λ k least. elim (cases_eq k a) [
+          | inl same ↦ subst (λ j. test j ≡ false) (sym same) fails
+          | inr other ↦ none k (omega arith)
         ])
       ]
     ]

@@ -42,10 +42,12 @@ readings_once bytes a (s ∷ ss) [] b c last other (piece, sound, way) ends way'
     absurd (goes_on bytes a s.end s.kind other (subst (λ k. Ends bytes k other) (sym way') ends') piece sound)
 readings_once bytes a (s ∷ ss) (t ∷ ts) b c last other (piece, sound, way) ends (piece', sound', way') ends' =
     let (end, kind) = piece_once bytes a t.end s.end t.kind s.kind piece' piece in
-    let (tokens, same) = readings_once bytes s.end ss ts b c last other way ends (subst (λ k. Leads bytes k ts c) end way') ends' in
-    (ap (with_token s.kind a s.end) tokens
-    ∙ ap (λ k. with_token k a s.end (tokens_of s.end ts)) (sym kind)
-    ∙ ap (λ e. with_token t.kind a e (tokens_of e ts)) (sym end), same)
+    let (tokens, same) = readings_once bytes s.end ss ts b c last other way ends (subst (λ k. Leads bytes k ts c) end way') ends' in (
+      ap (with_token s.kind a s.end) tokens
+          ∙ ap (λ k. with_token k a s.end (tokens_of s.end ts)) (sym kind)
+          ∙ ap (λ e. with_token t.kind a e (tokens_of e ts)) (sym end),
+      same,
+    )
 
 -- a reading to its end
 abbrev pub Reading : List ℕ → ℕ → Type 0
@@ -61,8 +63,8 @@ pub reading_there : (bytes : List ℕ) (fuel a : ℕ) → length bytes ≤ a + f
 reading_there bytes zero a enough within = ([], a, None, refl, omega arith)
 reading_there bytes (suc fuel) a enough within =
     elim (cases_lt a (length bytes)) [
-      inl low ↦ let (b, kind, piece) = piece_there bytes a low in by_kind b kind piece (reading_there bytes fuel)
-    | inr past ↦ ([], a, None, refl, omega arith)
+      | inl low ↦ let (b, kind, piece) = piece_there bytes a low in by_kind b kind piece (reading_there bytes fuel)
+      | inr past ↦ ([], a, None, refl, omega arith)
     ]
   where
     by_kind : (b : ℕ) (kind : Kind) → Piece bytes a b kind

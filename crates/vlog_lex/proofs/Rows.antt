@@ -14,10 +14,10 @@ none_passes : {X : Type 0} (p : X → Bool) (xs : List X) → position p xs ≡ 
 none_passes p xs none k d within =
     let first = position_or_len p xs in
     elim (cases_lt first (length xs)) [
-      inl low ↦
-        let some : position p xs ≡ Some first = cond-true (nat_lt first (length xs)) (Some first) None (lt-ltb first (length xs) low) in
-        cc
-    | inr high ↦ fails_before_first p xs k d (omega arith)
+      | inl low ↦
+          let some : position p xs ≡ Some first = cond-true (nat_lt first (length xs)) (Some first) None (lt-ltb first (length xs) low) in
+          cc
+      | inr high ↦ fails_before_first p xs k d (omega arith)
     ]
 
 -- what a look-up by rows tells

@@ -62,11 +62,11 @@ over_or_not Part Over walks place n past zero a enough =
     inr (λ e way over. past e (omega (arith, through_onward Part Over walks a e way)) over)
 over_or_not Part Over walks place n past (suc fuel) a enough =
     elim (place a) [
-      ends over ↦ inl (a, ([], refl), over)
-    | goes b part ↦
-        elim (over_or_not Part Over walks place n past fuel b (omega (arith, walks.onward a b part))) [
-          inl (e, way, over) ↦ inl (e, (b ∷ way.0, (part, way.1)), over)
-        | inr none ↦ inr (λ e way over. none e (ahead Part Over walks a b e (b ∷ [], (part, refl)) way over) over)
-        ]
-    | stuck none goes_on ↦ inr (λ e way over. goes_on (subst Over (sym (stays Part a e none way)) over))
+      | ends over ↦ inl (a, ([], refl), over)
+      | goes b part ↦
+          elim (over_or_not Part Over walks place n past fuel b (omega (arith, walks.onward a b part))) [
+            | inl (e, way, over) ↦ inl (e, (b ∷ way.0, (part, way.1)), over)
+            | inr none ↦ inr (λ e way over. none e (ahead Part Over walks a b e (b ∷ [], (part, refl)) way over) over)
+          ]
+      | stuck none goes_on ↦ inr (λ e way over. goes_on (subst Over (sym (stays Part a e none way)) over))
     ]

@@ -1,6 +1,8 @@
 -- The tokens of bytes, or the fault that keeps them from having any.
-use Rattle.std.specs.Prelude.{◌≡◌, ◌⊎◌, ℕ, List, [], ◌∷◌, length}
+use Rattle.std.specs.Prelude.{◌≡◌, ◌⊎◌, ℕ, ◌<◌, ◌≤◌, ◌^◌, List, [], ◌∷◌, length}
 use Rattle.vlog_lex.specs.declared.token.Token.{Token}
+use Rattle.vlog_lex.specs.declared.token.TokenKind.{TokenKind}
+use Rattle.vlog_lex.specs.declared.token.TokenKind.TheVariants.{Ident, Reserved, Cell, EndCell, Number, Literal, Mark}
 use Rattle.vlog_lex.specs.declared.token.LexFault.{LexFault}
 use Rattle.vlog_lex.specs.Piece.{Kind, Blank, Tok, Fault, Piece}
 
@@ -45,3 +47,13 @@ pub record HasOneAnswer (bytes : List ℕ) : Type 0 where
   pub not_both : (tokens : List Token) (fault : LexFault) → Lexes bytes tokens → HasFault bytes fault → ⊥
   pub one_list : (some other : List Token) → Lexes bytes some → Lexes bytes other → some ≡ other
   pub one_fault : (some other : LexFault) → HasFault bytes some → HasFault bytes other → some ≡ other
+
+-- a reserved word has a row of the table, and a literal 1 to 128 bits that hold its value
+abbrev pub IsInRange : TokenKind → Type 0
+IsInRange (Ident name) = Unit {0}
+IsInRange (Reserved row) = row < 124
+IsInRange Cell = Unit {0}
+IsInRange EndCell = Unit {0}
+IsInRange (Number value) = Unit {0}
+IsInRange (Literal size value) = (1 ≤ size) × (size ≤ 128) × (value < 2 ^ size)
+IsInRange (Mark byte) = Unit {0}

@@ -1,8 +1,8 @@
-ghost use Rattle.std.specs.Prelude.{◌≡◌, ◌≤◌, List, length, IfOk, IfErr, MatchResult};
+ghost use Rattle.std.specs.Prelude.{◌≡◌, ◌≤◌, List, length, All, IfOk, IfErr, MatchResult};
 ghost use Rattle.vlog_lex.specs.declared.token.Token.{Token};
 ghost use Rattle.vlog_lex.specs.declared.token.LexFault.{LexFault};
 ghost use Rattle.vlog_lex.specs.Found.{UnlessNoMemory};
-ghost use Rattle.vlog_lex.specs.Lexes.{Lexes, HasFault};
+ghost use Rattle.vlog_lex.specs.Lexes.{Lexes, HasFault, IsInRange};
 
 use crate::FILE_LIMIT;
 use crate::found::Found;
@@ -17,6 +17,7 @@ pub fn tokens(alloc: Global, bytes: &[u8]) -> Result<Tokens, LexFault>
     ensures tokens { IfOk result (λ read. Lexes bytes.now read.items) }
     ensures len { IfOk result (λ read. read.len ≡ length bytes.now) }
     ensures fault { IfErr result (UnlessNoMemory (HasFault bytes.now)) }
+    ensures in_range { IfOk result (λ read. All (λ token. IsInRange token.kind) read.items) }
 
     // Bytes that have tokens give these, and bytes that have a fault give it, unless memory is wanting.
     ensures each_list { (tokens : List Token) → Lexes bytes.now tokens

@@ -75,8 +75,14 @@ pub fn low_bits(base: u8, size: u8, digits: &[u8]) -> u128
     let mut value: u128 = 0;
     for &byte in digits {
         if byte != b'_' {
-            value = value.wrapping_mul(u128::from(base)).wrapping_add(u128::from(digit_of(byte)));
+            value = value
+                .wrapping_mul(u128::from(base))
+                .wrapping_add(u128::from(digit_of(byte)));
         }
     }
-    if size == 128 { value } else { value % (1 << size) }
+    if size == 128 {
+        value
+    } else {
+        value % (1 << size)
+    }
 }

@@ -187,5 +187,11 @@ fn literal(bytes: &[u8], at: usize, apostrophe: usize, size: Option<u32>) -> Res
         return Err(fault);
     }
     let value = low_bits(base, size as u8, digits);
-    Ok(Found::token(end, TokenKind::Literal { size: size as u8, value }))
+    Ok(Found::token(
+        end,
+        TokenKind::Literal {
+            size: size as u8,
+            value,
+        },
+    ))
 }

@@ -8,7 +8,7 @@ use Rattle.vlog_lex.proofs.attribute.string_end.Goals as goal
 pub returns-in-34-clause-within : goal.returns-in-34-clause-within
 returns-in-34-clause-within c =
     let from : c.args.start ≤ c.loop-at.at =
-        through_onward (StringPart c.args.bytes.now) (IsQuote c.args.bytes.now) (strings c.args.bytes.now) _ _ c.loop-at.invariant in
+    through_onward (StringPart c.args.bytes.now) (IsQuote c.args.bytes.now) (strings c.args.bytes.now) _ _ c.loop-at.invariant in
     (from, omega arith)
 
 pub loop-at-preserved-in-92 : goal.loop-at-preserved-in-92

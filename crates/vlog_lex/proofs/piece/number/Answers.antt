@@ -12,6 +12,9 @@ returns-then-byte_at-eq39 c =
     let bytes = c.args.bytes.now in
     let n = c.run_end-end.result in
     finds_map (NumberIs true bytes c.args.at n) (PieceBy case.Number bytes c.args.at)
-    (λ b kind is. (n, c.run_end-end.ensures.run,
-        subst (λ here. NumberIs here bytes c.args.at n b kind) (sym (eq-eqb (slice_index bytes n) apostrophe (sym c.byte_at.ensures ∙ c.if-byte_at-eq39.true))) is))
+    (λ b kind is. (
+      n,
+      c.run_end-end.ensures.run,
+      subst (λ here. NumberIs here bytes c.args.at n b kind) (sym (eq-eqb (slice_index bytes n) apostrophe (sym c.byte_at.ensures ∙ c.if-byte_at-eq39.true))) is,
+    ))
     _ c.literal.ensures
