@@ -1,6 +1,6 @@
 -- What is found by one rule is found by another that it implies.
 use Rattle.std.proofs.Common.{◌≡◌, sym, subst, ℕ, ◌+◌, ◌<◌, List, length, get_or}
-use Rattle.std.specs.Prelude.{Option, Some, None, Result, Ok, Err}
+use Rattle.std.specs.Prelude.{Result, Ok, Err}
 use Rattle.vlog_lex.specs.declared.found.Found.{Found}
 use Rattle.vlog_lex.specs.declared.token.LexFault.{LexFault}
 use Rattle.vlog_lex.specs.declared.token.LexFault.TheVariants.{BadByte, OpenComment, OpenAttribute, BadLiteral, LongName, Directive, NoMemory}

@@ -1,5 +1,5 @@
 -- Which parts of the bytes are names.
-use Rattle.std.proofs.Common.{◌≡◌, refl, sym, ◌∙◌, ap, ℕ, suc, zero, ◌+◌, ◌-◌, ◌<◌, ◌≤◌, Bool, true, false, not, ◌&&◌, List, [], ◌∷◌, length, get_or, drop, take, Some, arith, length-drop, length-take-le, subst, inl, inr, ◌||◌, nat_eq}
+use Rattle.std.proofs.Common.{◌≡◌, refl, sym, ◌∙◌, ap, ℕ, suc, zero, ◌+◌, ◌-◌, ◌<◌, ◌≤◌, Bool, true, not, List, [], ◌∷◌, length, get_or, drop, take, Some, arith, length-drop, length-take-le, subst, inl, inr, ◌||◌, nat_eq}
 use Rattle.std.specs.Prelude.{position, slice_range}
 use Rattle.std.specs.List.{list_all}
 use Rattle.std.proofs.lemmas.Bool.{and_parts, and_from, both_ways, not-true, not-false, cases_eq}

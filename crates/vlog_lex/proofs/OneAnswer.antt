@@ -1,12 +1,12 @@
 -- All bytes have one list of tokens or one fault.
-use Rattle.std.proofs.Common.{◌≡◌, refl, sym, ◌∙◌, subst, ℕ, List, length, ◌≤◌, arith, inl, inr, ◌⊎◌, Option, Some, None}
+use Rattle.std.proofs.Common.{◌≡◌, refl, sym, ◌∙◌, subst, ℕ, List, length, arith, inl, inr, ◌⊎◌, Some, None}
 use Rattle.std.specs.Prelude.{Result, Ok, Err, IfOk, IfErr, MatchResult}
 use Rattle.vlog_lex.specs.declared.token.Token.{Token}
 use Rattle.vlog_lex.specs.declared.token.Tokens.{Tokens}
 use Rattle.vlog_lex.specs.Found.{UnlessNoMemory}
 use Rattle.vlog_lex.proofs.Finding.{fault_map}
 use Rattle.vlog_lex.specs.declared.token.LexFault.{LexFault}
-use Rattle.vlog_lex.specs.Lexes.{Lexes, HasFault, HasOneAnswer, Leads, tokens_of}
+use Rattle.vlog_lex.specs.Lexes.{Lexes, HasFault, Leads, tokens_of}
 use Rattle.vlog_lex.specs.Law.{EachHasOneAnswer}
 use Rattle.vlog_lex.proofs.Readings.{Reading, readings_once, reading_there}
 

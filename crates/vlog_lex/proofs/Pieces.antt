@@ -1,22 +1,22 @@
 -- Pieces: no two stand at a place, one stands at each place, and a sound one leads on within the bytes.
-use Rattle.std.proofs.Common.{◌≡◌, ◌≢◌, refl, sym, ◌∙◌, ap, subst, ℕ, ◌+◌, ◌<◌, ◌≤◌, Bool, true, false, nat_eq, ◌&&◌, List, length, get_or, arith, inl, inr, ◌⊎◌, Option, Some, None}
+use Rattle.std.proofs.Common.{◌≡◌, refl, sym, ◌∙◌, ap, subst, ℕ, ◌+◌, ◌<◌, ◌≤◌, Bool, true, false, nat_eq, List, length, get_or, arith, inl, inr}
 use Rattle.std.specs.Prelude.{slice_range}
 use Rattle.std.proofs.lemmas.List.{get_or_past}
-use Rattle.std.proofs.lemmas.Bool.{and_parts, eqb-true, both_ways, cases_lt, cases_eq, cases_Bool, le-leb, or_left, or_right}
+use Rattle.std.proofs.lemmas.Bool.{and_parts, eqb-true, both_ways, cases_lt, cases_eq, le-leb, or_left, or_right}
 use Rattle.vlog_lex.specs.declared.case.Case.{Case}
 use Rattle.vlog_lex.specs.declared.case.Case.TheVariants.{White, LineComment, BlockComment, Attribute, Directive, Escaped, Word, Number, Apostrophe, Mark, Unfit}
 use Rattle.vlog_lex.specs.declared.case.Directive as directives
 use Rattle.vlog_lex.specs.declared.case.Directive.TheVariants.{Cell, EndCell, Timescale, DefaultNettype, Other}
 use Rattle.vlog_lex.specs.declared.token.LexFault.{LexFault}
-use Rattle.vlog_lex.specs.Byte.{is_white, is_blank, is_digit, is_word_byte, is_number_byte, is_literal_byte, is_graphic, newline, apostrophe, left_parenthesis, right_parenthesis, star, slash, underscore}
-use Rattle.vlog_lex.specs.Place.{IsFirst, HoldsNowhere, IsRun, both_at, ends_line}
-use Rattle.vlog_lex.specs.Attribute.{AttributePart, EndsAttribute}
+use Rattle.vlog_lex.specs.Byte.{is_white, is_blank, is_digit, is_word_byte, is_number_byte, is_literal_byte, is_graphic, newline, apostrophe, right_parenthesis, star, slash, underscore}
+use Rattle.vlog_lex.specs.Place.{IsFirst, IsRun, both_at, ends_line}
+use Rattle.vlog_lex.specs.Attribute.{AttributePart}
 use Rattle.vlog_lex.specs.Number.{written, base_of}
-use Rattle.vlog_lex.specs.Piece.{Kind, Blank, Tok, Fault, Piece, PieceBy, DirectiveIs, NumberIs, default_nettype, directive_of, case_of, escaped, word, number, literal}
+use Rattle.vlog_lex.specs.Piece.{Kind, Blank, Fault, Piece, PieceBy, DirectiveIs, NumberIs, default_nettype, directive_of, case_of, escaped, word, literal}
 use Rattle.vlog_lex.specs.Lexes.{IsSound}
 use Rattle.vlog_lex.proofs.Places.{first_once, first_within, first_there, first_or_nowhere, run_there, run_within}
 use Rattle.vlog_lex.proofs.Walk.{over_once, through_onward}
-use Rattle.vlog_lex.proofs.Attributes.{IsClose, attributes, attribute_or_not, no_close_past}
+use Rattle.vlog_lex.proofs.Attributes.{IsClose, attributes, attribute_or_not}
 use Rattle.vlog_lex.proofs.Names.{run_some, word_begins}
 use Rattle.vlog_lex.proofs.Told.{Told, told}
 

@@ -1,5 +1,5 @@
 -- What each token that is read keeps: rows of the table, and values that fit their bits.
-use Rattle.std.proofs.Common.{◌≡◌, refl, sym, subst, ℕ, suc, zero, ◌+◌, ◌<◌, ◌≤◌, ◌%◌, ◌^◌, Bool, true, false, nat_eq, nat_lt, nat_le, not, ◌&&◌, List, [], ◌∷◌, length, get_or, All, arith, inl, inr, Option, Some, None}
+use Rattle.std.proofs.Common.{◌≡◌, refl, sym, subst, ℕ, ◌+◌, ◌%◌, ◌^◌, Bool, true, false, nat_eq, nat_lt, nat_le, not, ◌&&◌, List, [], ◌∷◌, length, get_or, All, arith, inl, inr, Option, Some, None}
 use Rattle.std.specs.Prelude.{slice_range, position, if◌then◌else◌, Result, Ok, Err, IfOk}
 use Rattle.std.specs.Str.{bytes_eq}
 use Rattle.std.proofs.lemmas.Bool.{and_parts, leb-true, cond_both}
@@ -11,7 +11,6 @@ use Rattle.vlog_lex.specs.declared.case.Case.{Case}
 use Rattle.vlog_lex.specs.declared.case.Case.TheVariants.{White, LineComment, BlockComment, Attribute, Directive, Escaped, Word, Number, Apostrophe, Mark, Unfit}
 use Rattle.vlog_lex.specs.declared.case.Directive as directives
 use Rattle.vlog_lex.specs.declared.case.Directive.TheVariants.{Cell, EndCell, Timescale, DefaultNettype, Other}
-use Rattle.vlog_lex.specs.declared.token.TokenKind.{TokenKind}
 use Rattle.vlog_lex.specs.declared.token.TokenKind.TheVariants as token
 use Rattle.vlog_lex.specs.declared.token.LexFault.TheVariants as fault
 use Rattle.vlog_lex.specs.declared.token.Token.{Token}
@@ -19,7 +18,7 @@ use Rattle.vlog_lex.specs.declared.token.Tokens.{Tokens}
 use Rattle.vlog_lex.specs.declared.token.LexFault.{LexFault}
 use Rattle.vlog_lex.specs.Byte.{is_white, apostrophe}
 use Rattle.vlog_lex.specs.Number.{written, base_of, are_digits}
-use Rattle.vlog_lex.specs.Piece.{Kind, Blank, Tok, Fault, Piece, PieceBy, DirectiveIs, NumberIs, default_nettype, directive_of, case_of, escaped, word, word_kind, reserved_or_ident, number, literal}
+use Rattle.vlog_lex.specs.Piece.{Kind, Blank, Tok, Fault, PieceBy, DirectiveIs, NumberIs, directive_of, case_of, word_kind, reserved_or_ident, literal}
 use Rattle.vlog_lex.specs.Lexes.{Step, Leads, with_token, tokens_of, Lexes, IsInRange}
 
 -- a token in range, or no token

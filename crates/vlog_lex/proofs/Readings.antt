@@ -1,5 +1,5 @@
 -- Readings, piece after piece: no two differ, one there always is, and how one grows.
-use Rattle.std.proofs.Common.{◌≡◌, refl, sym, ◌∙◌, ap, subst, ℕ, zero, suc, ◌+◌, ◌<◌, ◌≤◌, List, [], ◌∷◌, ◌++◌, length, arith, inl, inr, ◌⊎◌, append-nil, Option, Some, None}
+use Rattle.std.proofs.Common.{◌≡◌, refl, sym, ◌∙◌, ap, subst, ℕ, zero, suc, ◌+◌, ◌<◌, ◌≤◌, List, [], ◌∷◌, ◌++◌, length, arith, inl, inr, append-nil, Option, Some, None}
 use Rattle.std.proofs.lemmas.Bool.{cases_lt}
 use Rattle.vlog_lex.specs.declared.token.Token.{Token}
 use Rattle.vlog_lex.specs.declared.token.LexFault.{LexFault}

@@ -1,5 +1,5 @@
 -- The first row that holds a word is the row that a look-up tells.
-use Rattle.std.proofs.Common.{◌≡◌, refl, sym, ◌∙◌, ap, subst, ℕ, ◌<◌, ◌↔◌, Bool, true, false, nat_lt, inl, inr, List, [], get_or, length, slice_get, Option, Some, None, arith}
+use Rattle.std.proofs.Common.{◌≡◌, refl, sym, ◌∙◌, ap, ℕ, ◌<◌, ◌↔◌, Bool, false, nat_lt, inl, inr, List, [], get_or, length, slice_get, Option, Some, None, arith}
 use Rattle.std.specs.Prelude.{position}
 use Rattle.std.specs.List.{position_or_len}
 use Rattle.std.proofs.lemmas.List.Sums.{fails_before_first}

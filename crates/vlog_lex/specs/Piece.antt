@@ -11,7 +11,7 @@ use Rattle.vlog_lex.specs.declared.token.TokenKind.{TokenKind}
 use Rattle.vlog_lex.specs.declared.token.TokenKind.TheVariants as token
 use Rattle.vlog_lex.specs.declared.token.LexFault.{LexFault}
 use Rattle.vlog_lex.specs.declared.token.LexFault.TheVariants as fault
-use Rattle.vlog_lex.specs.Byte.{is_blank, is_white, is_digit, begins_word, is_word_byte, is_number_byte, is_literal_byte, is_graphic, newline, quote, apostrophe, left_parenthesis, right_parenthesis, star, slash, backslash, underscore, backtick}
+use Rattle.vlog_lex.specs.Byte.{is_blank, is_white, is_digit, begins_word, is_word_byte, is_number_byte, is_literal_byte, is_graphic, apostrophe, left_parenthesis, star, slash, backslash, backtick}
 use Rattle.vlog_lex.specs.Place.{IsFirst, HoldsNowhere, IsRun, both_at, ends_line}
 use Rattle.vlog_lex.specs.Attribute.{EndsAttribute}
 use Rattle.vlog_lex.specs.Number.{written, base_of, are_digits}

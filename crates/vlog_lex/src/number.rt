@@ -72,17 +72,17 @@ pub fn low_bits(base: u8, size: u8, digits: &[u8]) -> u128
     requires most { size ≤ 128 }
     ensures { result ≡ written base digits.now % 2 ^ size }
 {
-    let mut value: u128 = 0;
+    let mut bits: u128 = 0;
     for &byte in digits {
         if byte != b'_' {
-            value = value
+            bits = bits
                 .wrapping_mul(u128::from(base))
                 .wrapping_add(u128::from(digit_of(byte)));
         }
     }
     if size == 128 {
-        value
+        bits
     } else {
-        value % (1 << size)
+        bits % (1 << size)
     }
 }

@@ -171,7 +171,8 @@ fn literal(bytes: &[u8], at: usize, apostrophe: usize, size: Option<u32>) -> Res
     requires within { apostrophe < length bytes.now }
     requires limit { length bytes.now ≤ FILE_LIMIT }
     requires here { slice_index bytes.now apostrophe ≡ 39 }
-    requires size { SomeIff size (written 10 (slice_range bytes.now at apostrophe) < 2 ^ 32) (written 10 (slice_range bytes.now at apostrophe)) }
+    requires size { let written = written 10 (slice_range bytes.now at apostrophe) in
+        SomeIff size (written < 2 ^ 32) written }
     ensures { Finds (NumberIs true bytes.now at apostrophe) result }
 {
     let fault = LexFault::BadLiteral { at: at as u32 };

@@ -1,4 +1,4 @@
-use Rattle.std.proofs.Common.{◌-◌, ◌≤◌, length}
+use Rattle.std.proofs.Common.{◌-◌, length}
 use Rattle.vlog_lex.specs.Attribute.{Through, AttributePart}
 use Rattle.vlog_lex.proofs.attribute.attribute_end.Given as goal
 

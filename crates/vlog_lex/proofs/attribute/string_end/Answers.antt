@@ -1,8 +1,7 @@
-use Rattle.std.proofs.Common.{rules, arith, ◌≡◌, ◌≤◌, length, get_or}
+use Rattle.std.proofs.Common.{arith, ◌≤◌}
 use Rattle.vlog_lex.specs.Attribute.{StringPart}
 use Rattle.vlog_lex.proofs.Walk.{through_onward}
 use Rattle.vlog_lex.proofs.Attributes.{IsQuote, strings, escape_more, plain_more, string_open}
-use Rattle.vlog_lex.proofs.Places.{first_or_nowhere, first_there}
 use Rattle.vlog_lex.proofs.attribute.string_end.Goals as goal
 
 pub returns-in-34-clause-within : goal.returns-in-34-clause-within

@@ -1,4 +1,4 @@
-use Rattle.std.proofs.Common.{◌-◌, ◌≤◌, length}
+use Rattle.std.proofs.Common.{◌-◌, length}
 use Rattle.vlog_lex.specs.Attribute.{Through, StringPart}
 use Rattle.vlog_lex.proofs.attribute.string_end.Given as goal
 

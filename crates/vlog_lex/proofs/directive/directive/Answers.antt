@@ -1,6 +1,5 @@
-use Rattle.std.proofs.Common.{refl, inr, sym, ap, subst, ◌∙◌, ℕ}
-use Rattle.std.specs.Prelude.{slice_range}
-use Rattle.vlog_lex.specs.Piece.{Kind, PieceBy, DirectiveIs, directive_of}
+use Rattle.std.proofs.Common.{subst}
+use Rattle.vlog_lex.specs.Piece.{PieceBy, DirectiveIs}
 use Rattle.vlog_lex.specs.declared.case.Directive.TheVariants.{DefaultNettype}
 use Rattle.vlog_lex.specs.declared.case.Case.TheVariants as case
 use Rattle.vlog_lex.proofs.Finding.{finds_map}

@@ -1,4 +1,4 @@
-use Rattle.std.proofs.Common.{arith, ◌≡◌, ◌<◌, ◌≤◌, length, sym, ℕ}
+use Rattle.std.proofs.Common.{arith, ℕ}
 use Rattle.std.proofs.lemmas.Result.{err_from_is_err_and}
 use Rattle.vlog_lex.specs.Piece.{Piece, Fault}
 use Rattle.vlog_lex.specs.Lexes.{HasFault}

@@ -1,4 +1,4 @@
-use Rattle.std.proofs.Common.{arith, ◌≡◌, ◌≤◌, ◌^◌}
+use Rattle.std.proofs.Common.{arith, ◌≤◌, ◌^◌}
 use Rattle.vlog_lex.specs.Number.{written}
 use Rattle.vlog_lex.proofs.Numbers.{too_large}
 use Rattle.vlog_lex.proofs.number.decimal.Goals as goal

@@ -1,4 +1,4 @@
-use Rattle.std.proofs.Common.{arith, refl, sym, ◌+◌, ◌≡◌, ◌∙◌, ap, None}
+use Rattle.std.proofs.Common.{refl, sym, ◌+◌, ◌≡◌, ◌∙◌, ap, None}
 use Rattle.vlog_lex.specs.Byte.{is_literal_byte}
 use Rattle.std.specs.Prelude.{slice_index}
 use Rattle.vlog_lex.specs.Number.{base_of}

@@ -1,8 +1,8 @@
-use Rattle.std.proofs.Common.{refl, sym, subst, ◌∙◌, ap, nat_eq, true, ℕ}
+use Rattle.std.proofs.Common.{sym, subst, ◌∙◌, true}
 use Rattle.std.proofs.lemmas.Bool.{eq-eqb}
 use Rattle.std.specs.Prelude.{slice_index}
 use Rattle.vlog_lex.specs.Byte.{apostrophe}
-use Rattle.vlog_lex.specs.Piece.{Kind, PieceBy, NumberIs}
+use Rattle.vlog_lex.specs.Piece.{PieceBy, NumberIs}
 use Rattle.vlog_lex.specs.declared.case.Case.TheVariants as case
 use Rattle.vlog_lex.proofs.Finding.{finds_map}
 use Rattle.vlog_lex.proofs.piece.number.Goals as goal

@@ -1,4 +1,4 @@
-use Rattle.std.proofs.Common.{arith, refl, ◌<◌, get_or}
+use Rattle.std.proofs.Common.{arith, ◌<◌, get_or}
 use Rattle.vlog_lex.specs.Byte.{is_word_byte}
 use Rattle.vlog_lex.proofs.Names.{run_is_name, run_some, word_fits, word_begins}
 use Rattle.vlog_lex.proofs.piece.word.Goals as goal

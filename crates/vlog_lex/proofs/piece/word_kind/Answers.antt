@@ -1,6 +1,4 @@
-use Rattle.std.proofs.Common.{arith, refl, sym, ◌≡◌, Some, None}
-use Rattle.std.specs.Prelude.{position}
-use Rattle.std.specs.Str.{bytes_eq}
+use Rattle.std.proofs.Common.{refl, Some, None}
 use Rattle.word_table.specs.Reserved.{reserved_texts}
 use Rattle.vlog_lex.proofs.Rows.{position_is}
 use Rattle.vlog_lex.proofs.piece.word_kind.Goals as goal
