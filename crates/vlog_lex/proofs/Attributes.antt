@@ -16,7 +16,8 @@ IsClose bytes e = both_at star right_parenthesis bytes e ≡ true
 -- where `*)` stands, the first byte is a star
 pub close_star : (bytes : List ℕ) (e : ℕ) → IsClose bytes e → get_or bytes e 0 ≡ star
 close_star bytes e close =
-    eqb-true (get_or bytes e 0) star (and_parts (nat_eq (get_or bytes e 0) star) (nat_eq (get_or bytes (e + 1) 0) right_parenthesis) close).0
+    eqb-true (get_or bytes e 0) star (and_parts (nat_eq (get_or bytes e 0) star)
+    (nat_eq (get_or bytes (e + 1) 0) right_parenthesis) close).0
 
 pub strings : (bytes : List ℕ) → Walks (StringPart bytes) (IsQuote bytes)
 strings bytes = record { goes_on = goes_on; onward = onward; once = once }
@@ -36,7 +37,8 @@ strings bytes = record { goes_on = goes_on; onward = onward; once = once }
     once a b c (inr (other, plain, to)) (inr (other', plain', to')) = to ∙ sym to'
 
 pub string_once : (bytes : List ℕ) (a b c : ℕ) → EndsString bytes a b → EndsString bytes a c → b ≡ c
-string_once bytes a b c some other = over_once (StringPart bytes) (IsQuote bytes) (strings bytes) a b c some.0 some.1 other.0 other.1
+string_once bytes a b c some other =
+    over_once (StringPart bytes) (IsQuote bytes) (strings bytes) a b c some.0 some.1 other.0 other.1
 
 pub attributes : (bytes : List ℕ) → Walks (AttributePart bytes) (IsClose bytes)
 attributes bytes = record { goes_on = goes_on; onward = onward; once = once }
@@ -71,13 +73,15 @@ pub string_open : (bytes : List ℕ) (a b : ℕ) → Through (StringPart bytes) 
     → (e : ℕ) → EndsString bytes a e → ⊥
 string_open bytes a b way past e (rest, quoted) =
     let on = ahead (StringPart bytes) (IsQuote bytes) (strings bytes) a b e way rest quoted in
-    no_quote_past bytes e (omega (arith, through_onward (StringPart bytes) (IsQuote bytes) (strings bytes) b e on)) quoted
+    let onward = through_onward (StringPart bytes) (IsQuote bytes) (strings bytes) b e on in
+    no_quote_past bytes e (omega (arith, onward)) quoted
 
 pub attribute_open : (bytes : List ℕ) (a b : ℕ) → Through (AttributePart bytes) a b → length bytes ≤ b
     → (e : ℕ) → EndsAttribute bytes a e → ⊥
 attribute_open bytes a b way past e (rest, close) =
     let on = ahead (AttributePart bytes) (IsClose bytes) (attributes bytes) a b e way rest close in
-    no_close_past bytes e (omega (arith, through_onward (AttributePart bytes) (IsClose bytes) (attributes bytes) b e on)) close
+    let onward = through_onward (AttributePart bytes) (IsClose bytes) (attributes bytes) b e on in
+    no_close_past bytes e (omega (arith, onward)) close
 
 -- neither has an attribute with a string that has none
 pub attribute_open_at_string : (bytes : List ℕ) (a b : ℕ) → Through (AttributePart bytes) a b → IsQuote bytes b
@@ -103,7 +107,8 @@ plain_more bytes a b way other plain = through_more (StringPart bytes) a b (b + 
 
 pub string_more : (bytes : List ℕ) (a b e : ℕ) → Through (AttributePart bytes) a b → IsQuote bytes b
     → EndsString bytes (b + 1) e → Through (AttributePart bytes) a (e + 1)
-string_more bytes a b e way quoted string = through_more (AttributePart bytes) a b (e + 1) way (inl (e, quoted, string, refl))
+string_more bytes a b e way quoted string =
+    through_more (AttributePart bytes) a b (e + 1) way (inl (e, quoted, string, refl))
 
 pub byte_more : (bytes : List ℕ) (a b : ℕ) → Through (AttributePart bytes) a b → get_or bytes b 0 ≢ quote
     → both_at star right_parenthesis bytes b ≡ false → Through (AttributePart bytes) a (b + 1)
@@ -122,7 +127,8 @@ quote_place bytes a =
 
 string_or_not : (bytes : List ℕ) (a : ℕ) → ((e : ℕ) × EndsString bytes a e) ⊎ ((e : ℕ) → EndsString bytes a e → ⊥)
 string_or_not bytes a =
-    elim (over_or_not (StringPart bytes) (IsQuote bytes) (strings bytes) (quote_place bytes) (length bytes) (no_quote_past bytes) (length bytes) a (omega arith)) [
+    elim (over_or_not (StringPart bytes) (IsQuote bytes) (strings bytes) (quote_place bytes) (length bytes)
+    (no_quote_past bytes) (length bytes) a (omega arith)) [
       | inl (e, way, over) ↦ inl (e, (way, over))
       | inr none ↦ inr (λ e (way, over). none e way over)
     ]
@@ -144,9 +150,11 @@ close_place bytes a =
     no_part quoted none x (inl (e, quoted', string, to)) = none e string
     no_part quoted none x (inr (other, open', to)) = other quoted
 
-pub attribute_or_not : (bytes : List ℕ) (a : ℕ) → ((e : ℕ) × EndsAttribute bytes a e) ⊎ ((e : ℕ) → EndsAttribute bytes a e → ⊥)
+pub attribute_or_not : (bytes : List ℕ) (a : ℕ)
+    → ((e : ℕ) × EndsAttribute bytes a e) ⊎ ((e : ℕ) → EndsAttribute bytes a e → ⊥)
 attribute_or_not bytes a =
-    elim (over_or_not (AttributePart bytes) (IsClose bytes) (attributes bytes) (close_place bytes) (length bytes) (no_close_past bytes) (length bytes) a (omega arith)) [
+    elim (over_or_not (AttributePart bytes) (IsClose bytes) (attributes bytes) (close_place bytes) (length bytes)
+    (no_close_past bytes) (length bytes) a (omega arith)) [
       | inl (e, way, over) ↦ inl (e, (way, over))
       | inr none ↦ inr (λ e (way, over). none e way over)
     ]

@@ -19,14 +19,17 @@ fault_map P Q implies (BadLiteral a) holds = implies (BadLiteral a) holds
 fault_map P Q implies (LongName a) holds = implies (LongName a) holds
 fault_map P Q implies (Directive a) holds = implies (Directive a) holds
 
-pub finds_map : (P Q : ℕ → Kind → Type 0) → ((b : ℕ) (kind : Kind) → P b kind → Q b kind) → (result : Result Found LexFault)
+pub finds_map : (P Q : ℕ → Kind → Type 0) → ((b : ℕ) (kind : Kind) → P b kind → Q b kind)
+    → (result : Result Found LexFault)
     → Finds P result → Finds Q result
 finds_map P Q implies (Ok found) holds = implies found.end (kind_of found.token) holds
 finds_map P Q implies (Err fault) holds =
-    fault_map (λ it. (b : ℕ) × P b (Fault it)) (λ it. (b : ℕ) × Q b (Fault it)) (λ it (b, here). (b, implies b (Fault it) here)) fault holds
+    fault_map (λ it. (b : ℕ) × P b (Fault it)) (λ it. (b : ℕ) × Q b (Fault it))
+    (λ it (b, here). (b, implies b (Fault it) here)) fault holds
 
 -- what is found by the rule that applies is the piece
-pub by_rule : (rule : Case) (bytes : List ℕ) (a : ℕ) → a < length bytes → case_of (get_or bytes a 0) (get_or bytes (a + 1) 0) ≡ rule
+pub by_rule : (rule : Case) (bytes : List ℕ) (a : ℕ) → a < length bytes
+    → case_of (get_or bytes a 0) (get_or bytes (a + 1) 0) ≡ rule
     → (result : Result Found LexFault) → Finds (PieceBy rule bytes a) result → Finds (Piece bytes a) result
 by_rule rule bytes a within applies result found =
     finds_map (PieceBy rule bytes a) (Piece bytes a)

@@ -11,28 +11,35 @@ use Rattle.vlog_lex.specs.Byte.{is_word_byte, begins_word, is_digit}
 use Rattle.vlog_lex.specs.Place.{IsRun}
 
 -- each byte of a list that passes a test
-all_at : (test : ℕ → Bool) (bytes : List ℕ) (k : ℕ) → list_all test bytes ≡ true → k < length bytes → test (get_or bytes k 0) ≡ true
+all_at : (test : ℕ → Bool) (bytes : List ℕ) (k : ℕ) → list_all test bytes ≡ true → k < length bytes
+    → test (get_or bytes k 0) ≡ true
 all_at test [] k all within = absurd (omega arith)
 all_at test (byte ∷ bytes) zero all within = (and_parts (test byte) (list_all test bytes) all).0
-all_at test (byte ∷ bytes) (suc k) all within = all_at test bytes k (and_parts (test byte) (list_all test bytes) all).1 (omega arith)
+all_at test (byte ∷ bytes) (suc k) all within =
+    all_at test bytes k (and_parts (test byte) (list_all test bytes) all).1 (omega arith)
 
 -- a list each byte of which passes a test
-all_from : (test : ℕ → Bool) (bytes : List ℕ) → ((k : ℕ) → k < length bytes → test (get_or bytes k 0) ≡ true) → list_all test bytes ≡ true
+all_from : (test : ℕ → Bool) (bytes : List ℕ) → ((k : ℕ) → k < length bytes → test (get_or bytes k 0) ≡ true)
+    → list_all test bytes ≡ true
 all_from test [] each = refl
 all_from test (byte ∷ bytes) each =
-    and_from (test byte) (list_all test bytes) (each 0 (omega arith)) (all_from test bytes (λ k within. each (suc k) (omega arith)))
+    and_from (test byte) (list_all test bytes) (each 0 (omega arith))
+    (all_from test bytes (λ k within. each (suc k) (omega arith)))
 
 -- a name has no byte that may not stand in one
-pub no_bad_byte : (text : List ℕ) (at : ℕ) → IsName text → position (λ byte. not (is_name_byte byte)) text ≡ Some at → ⊥
+pub no_bad_byte : (text : List ℕ) (at : ℕ) → IsName text → position (λ byte. not (is_name_byte byte)) text ≡ Some at
+    → ⊥
 no_bad_byte text at name bad =
     let (within, unfit, first) = position-Some (λ byte. not (is_name_byte byte)) text at 0 bad in
-    both_ways (is_name_byte (get_or text at 0)) (not-true (is_name_byte (get_or text at 0)) unfit) (all_at is_name_byte text at name.printable within)
+    both_ways (is_name_byte (get_or text at 0)) (not-true (is_name_byte (get_or text at 0)) unfit)
+    (all_at is_name_byte text at name.printable within)
 
 -- the bytes from one place to another, each of which may stand in a name
 pub range_is_name : (bytes : List ℕ) (a b : ℕ) → a < b → b ≤ a + 1024 → b ≤ length bytes
     → ((k : ℕ) → a ≤ k → k < b → is_name_byte (get_or bytes k 0) ≡ true) → IsName (slice_range bytes a b)
 range_is_name bytes a b some few within each =
-    let long : length (take (b - a) (drop a bytes)) ≡ b - a = length-take-le (b - a) (drop a bytes) (omega (arith, length-drop a bytes)) in
+    let long : length (take (b - a) (drop a bytes)) ≡ b - a =
+    length-take-le (b - a) (drop a bytes) (omega (arith, length-drop a bytes)) in
     record {
       some_byte = omega (arith, long);
       within_limit = omega (arith, long);
@@ -43,17 +50,21 @@ range_is_name bytes a b some few within each =
     }
 
 -- a run of bytes that may stand in a name
-pub run_is_name : (class : ℕ → Bool) (bytes : List ℕ) (a b : ℕ) → ((byte : ℕ) → class byte ≡ true → is_name_byte byte ≡ true)
+pub run_is_name : (class : ℕ → Bool) (bytes : List ℕ) (a b : ℕ)
+    → ((byte : ℕ) → class byte ≡ true → is_name_byte byte ≡ true)
     → IsRun class bytes a b → a < b → b ≤ a + 1024 → b ≤ length bytes → IsName (slice_range bytes a b)
 run_is_name class bytes a b fits run some few within =
-    range_is_name bytes a b some few within (λ k from below. fits (get_or bytes k 0) (not-false (class (get_or bytes k 0)) (run.before k from below)))
+    range_is_name bytes a b some few within
+    (λ k from below. fits (get_or bytes k 0) (not-false (class (get_or bytes k 0)) (run.before k from below)))
 
 -- a run is not empty where its first byte is of the class
-pub run_some : (class : ℕ → Bool) (bytes : List ℕ) (a b : ℕ) → IsRun class bytes a b → class (get_or bytes a 0) ≡ true → a < b
+pub run_some : (class : ℕ → Bool) (bytes : List ℕ) (a b : ℕ) → IsRun class bytes a b → class (get_or bytes a 0) ≡ true
+    → a < b
 run_some class bytes a b run has =
     elim (cases_eq a b) [
       | inl same ↦
-          let ends : not (class (get_or bytes a 0)) ≡ true = subst (λ k. not (class (get_or bytes k 0)) ≡ true) (sym same) run.here in
+          let ends : not (class (get_or bytes a 0)) ≡ true =
+          subst (λ k. not (class (get_or bytes k 0)) ≡ true) (sym same) run.here in
           absurd (both_ways (class (get_or bytes a 0)) (not-true (class (get_or bytes a 0)) ends) has)
       | inr other ↦ omega (arith, run.from)
     ]

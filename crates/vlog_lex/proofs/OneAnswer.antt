@@ -10,24 +10,31 @@ use Rattle.vlog_lex.specs.Lexes.{Lexes, HasFault, Leads, tokens_of}
 use Rattle.vlog_lex.specs.Law.{EachHasOneAnswer}
 use Rattle.vlog_lex.proofs.Readings.{Reading, readings_once, reading_there}
 
-pub one_list : (bytes : List ℕ) (tokens others : List Token) → Lexes bytes tokens → Lexes bytes others → tokens ≡ others
+pub one_list : (bytes : List ℕ) (tokens others : List Token) → Lexes bytes tokens → Lexes bytes others
+    → tokens ≡ others
 unfolding Lexes
 one_list bytes tokens others (steps, way, is) (steps', way', is') =
     is ∙ (readings_once bytes 0 steps steps' (length bytes) (length bytes) None None way refl way' refl).0 ∙ sym is'
 
-pub one_fault : (bytes : List ℕ) (fault other : LexFault) → HasFault bytes fault → HasFault bytes other → fault ≡ other
+pub one_fault : (bytes : List ℕ) (fault other : LexFault) → HasFault bytes fault → HasFault bytes other
+    → fault ≡ other
 unfolding HasFault
 one_fault bytes fault other (steps, a, b, way, piece) (steps', a', b', way', piece') =
-    let same = (readings_once bytes 0 steps steps' a a' (Some fault) (Some other) way (b, piece) way' (b', piece')).1 in cc
+    let same = (readings_once bytes 0 steps steps' a a' (Some fault) (Some other) way (b, piece) way' (b', piece')).1
+    in cc
 
-pub not_both : (bytes : List ℕ) (tokens : List Token) (fault : LexFault) → Lexes bytes tokens → HasFault bytes fault → ⊥
+pub not_both : (bytes : List ℕ) (tokens : List Token) (fault : LexFault) → Lexes bytes tokens → HasFault bytes fault
+    → ⊥
 unfolding Lexes HasFault
 not_both bytes tokens fault (steps, way, is) (steps', a, b, way', piece) =
-    let same = (readings_once bytes 0 steps steps' (length bytes) a None (Some fault) way refl way' (b, piece)).1 in cc
+    let same = (readings_once bytes 0 steps steps' (length bytes) a None (Some fault) way refl way' (b, piece)).1
+    in cc
 
-some : (bytes : List ℕ) → Reading bytes 0 → ((tokens : List Token) × Lexes bytes tokens) ⊎ ((fault : LexFault) × HasFault bytes fault)
+some : (bytes : List ℕ) → Reading bytes 0
+    → ((tokens : List Token) × Lexes bytes tokens) ⊎ ((fault : LexFault) × HasFault bytes fault)
 unfolding Lexes HasFault
-some bytes (steps, b, None, way, ends) = inl (tokens_of 0 steps, (steps, subst (λ k. Leads bytes 0 steps k) ends way, refl))
+some bytes (steps, b, None, way, ends) =
+    inl (tokens_of 0 steps, (steps, subst (λ k. Leads bytes 0 steps k) ends way, refl))
 some bytes (steps, b, Some fault, way, (c, piece)) = inr (fault, (steps, b, c, way, piece))
 
 pub law : EachHasOneAnswer

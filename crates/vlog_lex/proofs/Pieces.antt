@@ -53,11 +53,16 @@ once White bytes a b c kind other (run, is) (run', is') = (first_once _ a b c ru
 once LineComment bytes a b c kind other (line, is) (line', is') = (first_once _ (a + 2) b c line line', is ∙ sym is')
 once BlockComment bytes a b c kind other (inl (e, first, to, is)) (inl (e', first', to', is')) =
     (to ∙ ap (λ k. k + 2) (first_once _ (a + 2) e e' first first') ∙ sym to', is ∙ sym is')
-once BlockComment bytes a b c kind other (inl (e, first, to, is)) (inr (none, to', is')) = absurd (both_ways _ (none e first.from) first.here)
-once BlockComment bytes a b c kind other (inr (none, to, is)) (inl (e, first, to', is')) = absurd (both_ways _ (none e first.from) first.here)
+once BlockComment bytes a b c kind other (inl (e, first, to, is)) (inr (none, to', is')) =
+    absurd (both_ways _ (none e first.from) first.here)
+once BlockComment bytes a b c kind other (inr (none, to, is)) (inl (e, first, to', is')) =
+    absurd (both_ways _ (none e first.from) first.here)
 once BlockComment bytes a b c kind other (inr (none, to, is)) (inr (none', to', is')) = (to ∙ sym to', is ∙ sym is')
-once Attribute bytes a b c kind other (inl (e, ends, to, is)) (inl (e', ends', to', is')) =
-    (to ∙ ap (λ k. k + 2) (over_once (AttributePart bytes) (IsClose bytes) (attributes bytes) (a + 2) e e' ends.0 ends.1 ends'.0 ends'.1) ∙ sym to', is ∙ sym is')
+once Attribute bytes a b c kind other (inl (e, ends, to, is)) (inl (e', ends', to', is')) = (
+  to ∙ ap (λ k. k + 2) (over_once (AttributePart bytes) (IsClose bytes) (attributes bytes) (a + 2) e e' ends.0
+      ends.1 ends'.0 ends'.1) ∙ sym to',
+  is ∙ sym is',
+)
 once Attribute bytes a b c kind other (inl (e, ends, to, is)) (inr (none, to', is')) = absurd (none e ends)
 once Attribute bytes a b c kind other (inr (none, to, is)) (inl (e, ends, to', is')) = absurd (none e ends)
 once Attribute bytes a b c kind other (inr (none, to, is)) (inr (none', to', is')) = (to ∙ sym to', is ∙ sym is')
@@ -93,9 +98,11 @@ Some_by rule bytes a = (b : ℕ) × (kind : Kind) × PieceBy rule bytes a b kind
 line_there : (bytes : List ℕ) (a : ℕ) → (b : ℕ) × IsFirst (ends_line bytes) a b
 line_there bytes a =
     first_there (ends_line bytes) (length bytes) a
-    (or_right (nat_eq (get_or bytes (a + length bytes) 0) newline) _ (le-leb (length bytes) (a + length bytes) (omega arith)))
+    (or_right (nat_eq (get_or bytes (a + length bytes) 0) newline) _
+    (le-leb (length bytes) (a + length bytes) (omega arith)))
 
-directive_there : (directive : directives.Directive) (bytes : List ℕ) (a n : ℕ) → (b : ℕ) × (kind : Kind) × DirectiveIs directive bytes a n b kind
+directive_there : (directive : directives.Directive) (bytes : List ℕ) (a n : ℕ)
+    → (b : ℕ) × (kind : Kind) × DirectiveIs directive bytes a n b kind
 directive_there Cell bytes a n = (n, _, (refl, refl))
 directive_there EndCell bytes a n = (n, _, (refl, refl))
 directive_there Timescale bytes a n = let (b, line) = line_there bytes n in (b, Blank, (line, refl))
@@ -117,7 +124,8 @@ there : (rule : Case) (bytes : List ℕ) (a : ℕ) → Some_by rule bytes a
 there White bytes a = let (b, run) = run_there is_white bytes a refl in (b, Blank, (run, refl))
 there LineComment bytes a = let (b, line) = line_there bytes (a + 2) in (b, Blank, (line, refl))
 there BlockComment bytes a =
-    elim (first_or_nowhere (both_at star slash bytes) (length bytes) (a + 2) (λ k past. no_end_past bytes k (omega arith))) [
+    elim (first_or_nowhere (both_at star slash bytes) (length bytes) (a + 2)
+    (λ k past. no_end_past bytes k (omega arith))) [
       | inl (e, first) ↦ (e + 2, Blank, inl (e, first, refl, refl))
       | inr none ↦ (a, _, inr (none, refl, refl))
     ]
@@ -158,10 +166,14 @@ no_fault kind fault is sound = subst IsSound is sound
 -- where a byte is read, there is one
 inside : (bytes : List ℕ) (k byte : ℕ) → get_or bytes k 0 ≡ byte → 0 < byte → k < length bytes
 inside bytes k byte is some =
-    elim (cases_lt k (length bytes)) [ inl low ↦ low | inr past ↦ absurd (omega (arith, get_or_past bytes k 0 past, is, some)) ]
+    elim (cases_lt k (length bytes)) [
+      | inl low ↦ low
+      | inr past ↦ absurd (omega (arith, get_or_past bytes k 0 past, is, some))
+    ]
 
 -- where two bytes are, both are within
-both_inside : (first second : ℕ) (bytes : List ℕ) (k : ℕ) → 0 < second → both_at first second bytes k ≡ true → k + 2 ≤ length bytes
+both_inside : (first second : ℕ) (bytes : List ℕ) (k : ℕ) → 0 < second → both_at first second bytes k ≡ true
+    → k + 2 ≤ length bytes
 both_inside first second bytes k some both =
     let (here, next) = and_parts (nat_eq (get_or bytes k 0) first) (nat_eq (get_or bytes (k + 1) 0) second) both in
     omega (arith, inside bytes (k + 1) second (eqb-true (get_or bytes (k + 1) 0) second next) some)
@@ -171,18 +183,21 @@ line_within bytes a b from line =
     first_within (ends_line bytes) a b (length bytes) line from
     (or_right (nat_eq (get_or bytes (length bytes) 0) newline) _ (le-leb (length bytes) (length bytes) (omega arith)))
 
-directive_moves : (directive : directives.Directive) (bytes : List ℕ) (a n b : ℕ) (kind : Kind) → a < n → n ≤ length bytes
+directive_moves : (directive : directives.Directive) (bytes : List ℕ) (a n b : ℕ) (kind : Kind) → a < n
+    → n ≤ length bytes
     → DirectiveIs directive bytes a n b kind → IsSound kind → Moves bytes a b
 directive_moves Cell bytes a n b kind from within (to, is) sound = (omega arith, omega arith)
 directive_moves EndCell bytes a n b kind from within (to, is) sound = (omega arith, omega arith)
-directive_moves Timescale bytes a n b kind from within (line, is) sound = (omega (arith, line.from), line_within bytes n b within line)
+directive_moves Timescale bytes a n b kind from within (line, is) sound =
+    (omega (arith, line.from), line_within bytes n b within line)
 directive_moves DefaultNettype bytes a n b kind from within (w, blanks, wire, is) sound =
     let blank = run_within is_blank bytes n w refl blanks within in
     (omega (arith, blanks.from, wire.from), run_within is_word_byte bytes w b refl wire blank)
 directive_moves Other bytes a n b kind from within (to, is) sound = absurd (no_fault kind _ is sound)
 
 -- a literal that is sound has a base
-base_there : (a size byte : ℕ) (digits : List ℕ) (kind : Kind) → kind ≡ literal a size (base_of byte) digits → IsSound kind → 0 < byte
+base_there : (a size byte : ℕ) (digits : List ℕ) (kind : Kind) → kind ≡ literal a size (base_of byte) digits
+    → IsSound kind → 0 < byte
 base_there a size byte digits kind is sound =
     elim (cases_eq byte 0) [
       | inl none ↦ absurd (no_fault kind _ (is ∙ ap (λ c. literal a size (base_of c) digits) none) sound)
@@ -192,12 +207,14 @@ base_there a size byte digits kind is sound =
 number_moves : (quoted : Bool) (bytes : List ℕ) (a n b : ℕ) (kind : Kind) → a < n → n ≤ length bytes
     → NumberIs quoted bytes a n b kind → IsSound kind → Moves bytes a b
 number_moves true bytes a n b kind from within (run, is) sound =
-    let some = base_there a (written 10 (slice_range bytes a n)) (get_or bytes (n + 1) 0) (slice_range bytes (n + 2) b) kind is sound in
+    let some = base_there a (written 10 (slice_range bytes a n)) (get_or bytes (n + 1) 0)
+    (slice_range bytes (n + 2) b) kind is sound in
     let here = inside bytes (n + 1) (get_or bytes (n + 1) 0) refl some in
     (omega (arith, run.from), run_within is_literal_byte bytes (n + 2) b refl run (omega (arith, here)))
 number_moves false bytes a n b kind from within (to, is) sound = (omega arith, omega arith)
 
-moves : (rule : Case) (bytes : List ℕ) (a b : ℕ) (kind : Kind) → a < length bytes → Told rule (get_or bytes a 0) (get_or bytes (a + 1) 0)
+moves : (rule : Case) (bytes : List ℕ) (a b : ℕ) (kind : Kind) → a < length bytes
+    → Told rule (get_or bytes a 0) (get_or bytes (a + 1) 0)
     → PieceBy rule bytes a b kind → IsSound kind → Moves bytes a b
 moves White bytes a b kind within told (run, is) sound =
     (run_some is_white bytes a b run told, run_within is_white bytes a b refl run (omega arith))
@@ -206,25 +223,31 @@ moves LineComment bytes a b kind within told (line, is) sound =
 moves BlockComment bytes a b kind within told (inl (e, first, to, is)) sound =
     (omega (arith, first.from), omega (arith, both_inside star slash bytes e (omega arith) first.here))
 moves BlockComment bytes a b kind within told (inr (none, to, is)) sound = absurd (no_fault kind _ is sound)
-moves Attribute bytes a b kind within told (inl (e, (way, close), to, is)) sound =
-    (omega (arith, through_onward (AttributePart bytes) (IsClose bytes) (attributes bytes) (a + 2) e way), omega (arith, both_inside star right_parenthesis bytes e (omega arith) close))
+moves Attribute bytes a b kind within told (inl (e, (way, close), to, is)) sound = (
+  omega (arith, through_onward (AttributePart bytes) (IsClose bytes) (attributes bytes) (a + 2) e way),
+  omega (arith, both_inside star right_parenthesis bytes e (omega arith) close),
+)
 moves Attribute bytes a b kind within told (inr (none, to, is)) sound = absurd (no_fault kind _ is sound)
 moves Directive bytes a b kind within told (n, run, is) sound =
     directive_moves (directive_of (slice_range bytes (a + 1) n)) bytes a n b kind (omega (arith, run.from))
     (run_within is_word_byte bytes (a + 1) n refl run (omega arith)) is sound
 moves Escaped bytes a b kind within told (run, is) sound =
     (omega (arith, run.from), run_within is_graphic bytes (a + 1) b refl run (omega arith))
-moves Word bytes a b kind within told (run, is) sound =
-    (run_some is_word_byte bytes a b run (word_begins (get_or bytes a 0) told), run_within is_word_byte bytes a b refl run (omega arith))
+moves Word bytes a b kind within told (run, is) sound = (
+  run_some is_word_byte bytes a b run (word_begins (get_or bytes a 0) told),
+  run_within is_word_byte bytes a b refl run (omega arith),
+)
 moves Number bytes a b kind within told (n, run, is) sound =
     number_moves (nat_eq (get_or bytes n 0) apostrophe) bytes a n b kind
-    (run_some is_number_byte bytes a n run (or_left (is_digit (get_or bytes a 0)) (nat_eq (get_or bytes a 0) underscore) told))
+    (run_some is_number_byte bytes a n run (or_left (is_digit (get_or bytes a 0))
+    (nat_eq (get_or bytes a 0) underscore) told))
     (run_within is_number_byte bytes a n refl run (omega arith)) is sound
 moves Apostrophe bytes a b kind within told (to, is) sound = absurd (no_fault kind _ is sound)
 moves Mark bytes a b kind within told (to, is) sound = (omega arith, omega arith)
 moves Unfit bytes a b kind within told (to, is) sound = absurd (no_fault kind _ is sound)
 
-pub piece_moves : (bytes : List ℕ) (a b : ℕ) (kind : Kind) → Piece bytes a b kind → IsSound kind → (a < b) × (b ≤ length bytes)
+pub piece_moves : (bytes : List ℕ) (a b : ℕ) (kind : Kind) → Piece bytes a b kind → IsSound kind
+    → (a < b) × (b ≤ length bytes)
 piece_moves bytes a b kind (within, is) sound =
     let first = get_or bytes a 0 in
     let second = get_or bytes (a + 1) 0 in

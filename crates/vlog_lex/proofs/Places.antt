@@ -27,7 +27,10 @@ first_within test a b n first from holds =
 later : (test : ℕ → Bool) (a b : ℕ) → test a ≡ false → IsFirst test (a + 1) b → IsFirst test a b
 later test a b fails first = record {
   from = omega (arith, first.from);
-  before = λ k least below. elim (cases_eq k a) [ inl same ↦ subst (λ j. test j ≡ false) (sym same) fails | inr other ↦ first.before k (omega arith) below ];
+  before = λ k least below. elim (cases_eq k a) [
+    | inl same ↦ subst (λ j. test j ≡ false) (sym same) fails
+    | inr other ↦ first.before k (omega arith) below
+  ];
   here = first.here;
 }
 
@@ -63,13 +66,16 @@ first_or_nowhere test (suc fuel) a past =
     ]
 
 -- runs of a class that has no byte 0 end within the bytes, and there is one from each place on
-pub stops_past : (class : ℕ → Bool) (bytes : List ℕ) (k : ℕ) → class 0 ≡ false → length bytes ≤ k → stops class bytes k ≡ true
+pub stops_past : (class : ℕ → Bool) (bytes : List ℕ) (k : ℕ) → class 0 ≡ false → length bytes ≤ k
+    → stops class bytes k ≡ true
 stops_past class bytes k nothing past = ap (λ byte. not (class byte)) (get_or_past bytes k 0 past) ∙ ap not nothing
 
 pub run_there : (class : ℕ → Bool) (bytes : List ℕ) (a : ℕ) → class 0 ≡ false → (b : ℕ) × IsRun class bytes a b
 run_there class bytes a nothing =
     first_there (stops class bytes) (length bytes) a (stops_past class bytes (a + length bytes) nothing (omega arith))
 
-pub run_within : (class : ℕ → Bool) (bytes : List ℕ) (a b : ℕ) → class 0 ≡ false → IsRun class bytes a b → a ≤ length bytes → b ≤ length bytes
+pub run_within : (class : ℕ → Bool) (bytes : List ℕ) (a b : ℕ) → class 0 ≡ false → IsRun class bytes a b
+    → a ≤ length bytes → b ≤ length bytes
 run_within class bytes a b nothing run from =
-    first_within (stops class bytes) a b (length bytes) run from (stops_past class bytes (length bytes) nothing (omega arith))
+    first_within (stops class bytes) a b (length bytes) run from
+    (stops_past class bytes (length bytes) nothing (omega arith))

@@ -15,7 +15,8 @@ Ends bytes a None = a ≡ length bytes
 Ends bytes a (Some fault) = (b : ℕ) × Piece bytes a b (Fault fault)
 
 -- where a reading ends, no sound piece stands
-goes_on : (bytes : List ℕ) (a b : ℕ) (kind : Kind) (last : Option LexFault) → Ends bytes a last → Piece bytes a b kind → IsSound kind → ⊥
+goes_on : (bytes : List ℕ) (a b : ℕ) (kind : Kind) (last : Option LexFault) → Ends bytes a last → Piece bytes a b kind
+    → IsSound kind → ⊥
 goes_on bytes a b kind None ends (within, is) sound = omega (arith, ends, within)
 goes_on bytes a b kind (Some fault) (c, piece) other sound =
     subst IsSound (piece_once bytes a b c kind (Fault fault) other piece).1 sound
@@ -23,7 +24,8 @@ goes_on bytes a b kind (Some fault) (c, piece) other sound =
 fault_once : (fault other : LexFault) → Fault fault ≡ Fault other → fault ≡ other
 fault_once fault other same = cc
 
-ends_once : (bytes : List ℕ) (a : ℕ) (last other : Option LexFault) → Ends bytes a last → Ends bytes a other → last ≡ other
+ends_once : (bytes : List ℕ) (a : ℕ) (last other : Option LexFault) → Ends bytes a last → Ends bytes a other
+    → last ≡ other
 ends_once bytes a None None ends ends' = refl
 ends_once bytes a None (Some fault) ends (b, (within, is)) = absurd (omega (arith, ends, within))
 ends_once bytes a (Some fault) None (b, (within, is)) ends = absurd (omega (arith, ends, within))
@@ -34,15 +36,19 @@ ends_once bytes a (Some fault) (Some other) (b, piece) (c, piece') =
 pub readings_once : (bytes : List ℕ) (a : ℕ) (steps others : List Step) (b c : ℕ) (last other : Option LexFault)
     → Leads bytes a steps b → Ends bytes b last → Leads bytes a others c → Ends bytes c other
     → (tokens_of a steps ≡ tokens_of a others) × (last ≡ other)
-readings_once bytes a [] [] b c last other way ends way' ends' =
-    (refl, ends_once bytes a last other (subst (λ k. Ends bytes k last) (sym way) ends) (subst (λ k. Ends bytes k other) (sym way') ends'))
+readings_once bytes a [] [] b c last other way ends way' ends' = (
+  refl,
+  ends_once bytes a last other (subst (λ k. Ends bytes k last) (sym way) ends)
+      (subst (λ k. Ends bytes k other) (sym way') ends'),
+)
 readings_once bytes a [] (t ∷ ts) b c last other way ends (piece, sound, way') ends' =
     absurd (goes_on bytes a t.end t.kind last (subst (λ k. Ends bytes k last) (sym way) ends) piece sound)
 readings_once bytes a (s ∷ ss) [] b c last other (piece, sound, way) ends way' ends' =
     absurd (goes_on bytes a s.end s.kind other (subst (λ k. Ends bytes k other) (sym way') ends') piece sound)
 readings_once bytes a (s ∷ ss) (t ∷ ts) b c last other (piece, sound, way) ends (piece', sound', way') ends' =
     let (end, kind) = piece_once bytes a t.end s.end t.kind s.kind piece' piece in
-    let (tokens, same) = readings_once bytes s.end ss ts b c last other way ends (subst (λ k. Leads bytes k ts c) end way') ends' in (
+    let (tokens, same) =
+    readings_once bytes s.end ss ts b c last other way ends (subst (λ k. Leads bytes k ts c) end way') ends' in (
       ap (with_token s.kind a s.end) tokens
           ∙ ap (λ k. with_token k a s.end (tokens_of s.end ts)) (sym kind)
           ∙ ap (λ e. with_token t.kind a e (tokens_of e ts)) (sym end),
@@ -54,7 +60,8 @@ abbrev pub Reading : List ℕ → ℕ → Type 0
 Reading bytes a = (steps : List Step) × (b : ℕ) × (last : Option LexFault) × Leads bytes a steps b × Ends bytes b last
 
 -- one more piece in front
-in_front : (bytes : List ℕ) (a b : ℕ) (kind : Kind) → Piece bytes a b kind → IsSound kind → Reading bytes b → Reading bytes a
+in_front : (bytes : List ℕ) (a b : ℕ) (kind : Kind) → Piece bytes a b kind → IsSound kind → Reading bytes b
+    → Reading bytes a
 in_front bytes a b kind piece sound (steps, c, last, way, ends) =
     (record { end = b; kind = kind } ∷ steps, c, last, (piece, sound, way), ends)
 
@@ -84,12 +91,15 @@ pub record ReadTo (bytes : List ℕ) (tokens : List Token) (a : ℕ) : Type 0 wh
   pub are : tokens ≡ tokens_of 0 steps
   pub within : a ≤ length bytes
 
-way_more : (bytes : List ℕ) (a : ℕ) (steps : List Step) (b c : ℕ) (kind : Kind) → Leads bytes a steps b → Piece bytes b c kind → IsSound kind
+way_more : (bytes : List ℕ) (a : ℕ) (steps : List Step) (b c : ℕ) (kind : Kind) → Leads bytes a steps b
+    → Piece bytes b c kind → IsSound kind
     → Leads bytes a (steps ++ record { end = c; kind = kind } ∷ []) c
 way_more bytes a [] b c kind way piece sound = (subst (λ k. Piece bytes k c kind) (sym way) piece, sound, refl)
-way_more bytes a (s ∷ ss) b c kind (first, sound', way) piece sound = (first, sound', way_more bytes s.end ss b c kind way piece sound)
+way_more bytes a (s ∷ ss) b c kind (first, sound', way) piece sound =
+    (first, sound', way_more bytes s.end ss b c kind way piece sound)
 
-with_token-append : (kind : Kind) (a b : ℕ) (tokens more : List Token) → with_token kind a b (tokens ++ more) ≡ with_token kind a b tokens ++ more
+with_token-append : (kind : Kind) (a b : ℕ) (tokens more : List Token)
+    → with_token kind a b (tokens ++ more) ≡ with_token kind a b tokens ++ more
 with_token-append Blank a b tokens more = refl
 with_token-append (Tok token) a b tokens more = refl
 with_token-append (Fault fault) a b tokens more = refl
@@ -101,7 +111,8 @@ tokens_more bytes a (s ∷ ss) b c kind (first, sound, way) =
     ap (with_token s.kind a s.end) (tokens_more bytes s.end ss b c kind way)
     ∙ with_token-append s.kind a s.end (tokens_of s.end ss) (with_token kind b c [])
 
-pub read_more : (bytes : List ℕ) (tokens : List Token) (a b : ℕ) (kind : Kind) → ReadTo bytes tokens a → Piece bytes a b kind → IsSound kind
+pub read_more : (bytes : List ℕ) (tokens : List Token) (a b : ℕ) (kind : Kind) → ReadTo bytes tokens a
+    → Piece bytes a b kind → IsSound kind
     → ReadTo bytes (tokens ++ with_token kind a b []) b
 read_more bytes tokens a b kind read piece sound = record {
   steps = read.steps ++ record { end = b; kind = kind } ∷ [];
@@ -111,7 +122,8 @@ read_more bytes tokens a b kind read piece sound = record {
 }
 
 -- the loop has read all, or comes to a fault
-pub read_all : (bytes : List ℕ) (tokens : List Token) (a : ℕ) → ReadTo bytes tokens a → length bytes ≤ a → Lexes bytes tokens
+pub read_all : (bytes : List ℕ) (tokens : List Token) (a : ℕ) → ReadTo bytes tokens a → length bytes ≤ a
+    → Lexes bytes tokens
 unfolding Lexes
 read_all bytes tokens a read past =
     let ends : a ≡ length bytes = omega (arith, read.within) in
@@ -127,7 +139,8 @@ found_sound : (token : Option TokenKind) → IsSound (kind_of token)
 found_sound None = tt
 found_sound (Some token) = tt
 
-pub found_moves : (bytes : List ℕ) (a b : ℕ) (token : Option TokenKind) → Piece bytes a b (kind_of token) → (a < b) × (b ≤ length bytes)
+pub found_moves : (bytes : List ℕ) (a b : ℕ) (token : Option TokenKind) → Piece bytes a b (kind_of token)
+    → (a < b) × (b ≤ length bytes)
 found_moves bytes a b token piece = piece_moves bytes a b (kind_of token) piece (found_sound token)
 
 pub read_blank : (bytes : List ℕ) (tokens : List Token) (a b : ℕ) (token : Option TokenKind) → ReadTo bytes tokens a
@@ -136,7 +149,9 @@ read_blank bytes tokens a b token read piece none =
     let more = read_more bytes tokens a b Blank read (subst (λ t. Piece bytes a b (kind_of t)) none piece) tt in
     rw append-nil at more
 
-pub read_token : (bytes : List ℕ) (tokens : List Token) (a b : ℕ) (token : Option TokenKind) (kind : TokenKind) → ReadTo bytes tokens a
-    → Piece bytes a b (kind_of token) → token ≡ Some kind → ReadTo bytes (tokens ++ record { kind = kind; at = a; end = b } ∷ []) b
+pub read_token : (bytes : List ℕ) (tokens : List Token) (a b : ℕ) (token : Option TokenKind) (kind : TokenKind)
+    → ReadTo bytes tokens a
+    → Piece bytes a b (kind_of token) → token ≡ Some kind
+    → ReadTo bytes (tokens ++ record { kind = kind; at = a; end = b } ∷ []) b
 read_token bytes tokens a b token kind read piece some =
     read_more bytes tokens a b (Tok kind) read (subst (λ t. Piece bytes a b (kind_of t)) some piece) tt

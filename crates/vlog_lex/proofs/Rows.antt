@@ -10,12 +10,14 @@ use Rattle.std.proofs.lemmas.Slice.Eq.{bytes_eq-Decides}
 use Rattle.std.proofs.lemmas.Bool.{both_ways, cases_lt, cond-true, lt-ltb}
 
 -- where no element passes a test, each fails it
-none_passes : {X : Type 0} (p : X → Bool) (xs : List X) → position p xs ≡ None → (k : ℕ) (d : X) → k < length xs → p (get_or xs k d) ≡ false
+none_passes : {X : Type 0} (p : X → Bool) (xs : List X) → position p xs ≡ None → (k : ℕ) (d : X) → k < length xs
+    → p (get_or xs k d) ≡ false
 none_passes p xs none k d within =
     let first = position_or_len p xs in
     elim (cases_lt first (length xs)) [
       | inl low ↦
-          let some : position p xs ≡ Some first = cond-true (nat_lt first (length xs)) (Some first) None (lt-ltb first (length xs) low) in
+          let some : position p xs ≡ Some first =
+          cond-true (nat_lt first (length xs)) (Some first) None (lt-ltb first (length xs) low) in
           cc
       | inr high ↦ fails_before_first p xs k d (omega arith)
     ]
@@ -28,7 +30,8 @@ pub position_is : (words : List (List ℕ)) (text : List ℕ) (found : Option �
     → position (bytes_eq text) words ≡ found
 position_is words text found tells = go (position (bytes_eq text) words) refl found tells
   where
-    go : (first : Option ℕ) → position (bytes_eq text) words ≡ first → (found : Option ℕ) → Tells words text found → first ≡ found
+    go : (first : Option ℕ) → position (bytes_eq text) words ≡ first → (found : Option ℕ) → Tells words text found
+        → first ≡ found
     go (Some i) is found tells =
         let (within, same, before) = position-Some (bytes_eq text) words i [] is in
         let equal : text ≡ get_or words i [] = (bytes_eq-Decides text (get_or words i [])).0 same in

@@ -36,7 +36,8 @@ ChosenBy Mark white line block attribute word number = Unit {0}
 ChosenBy Unfit white line block attribute word number = Unit {0}
 
 chosen_by : (white line block attribute directive escaped word number apostrophe' mark : Bool)
-    → ChosenBy (chosen white line block attribute directive escaped word number apostrophe' mark) white line block attribute word number
+    → ChosenBy (chosen white line block attribute directive escaped word number apostrophe' mark) white line block
+    attribute word number
 chosen_by true l b a d e w n p m = refl
 chosen_by false true b a d e w n p m = refl
 chosen_by false false true a d e w n p m = refl
@@ -51,11 +52,13 @@ chosen_by false false false false false false false false false false = tt
 
 abbrev pub Told : Case → ℕ → ℕ → Type 0
 Told rule first second =
-    ChosenBy rule (is_white first) (nat_eq first slash && nat_eq second slash) (nat_eq first slash && nat_eq second star)
+    ChosenBy rule (is_white first) (nat_eq first slash && nat_eq second slash)
+    (nat_eq first slash && nat_eq second star)
     (nat_eq first left_parenthesis && nat_eq second star) (begins_word first) (is_digit first)
 
 pub told : (first second : ℕ) → Told (case_of first second) first second
 told first second =
     chosen_by (is_white first) (nat_eq first slash && nat_eq second slash) (nat_eq first slash && nat_eq second star)
-    (nat_eq first left_parenthesis && nat_eq second star) (nat_eq first backtick) (nat_eq first backslash) (begins_word first)
+    (nat_eq first left_parenthesis && nat_eq second star) (nat_eq first backtick) (nat_eq first backslash)
+    (begins_word first)
     (is_digit first) (nat_eq first apostrophe) (is_graphic first)

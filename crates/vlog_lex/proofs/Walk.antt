@@ -9,7 +9,8 @@ pub record Walks (Part : ℕ → ℕ → Type 0) (Over : ℕ → Type 0) : Type 
   pub once : (a b c : ℕ) → Part a b → Part a c → b ≡ c
 
 -- one part more
-parts_more : (Part : ℕ → ℕ → Type 0) (a : ℕ) (ends : List ℕ) (b c : ℕ) → Parts Part a ends b → Part b c → Parts Part a (ends ++ c ∷ []) c
+parts_more : (Part : ℕ → ℕ → Type 0) (a : ℕ) (ends : List ℕ) (b c : ℕ) → Parts Part a ends b → Part b c
+    → Parts Part a (ends ++ c ∷ []) c
 parts_more Part a [] b c way part = (subst (λ p. Part p c) (sym way) part, refl)
 parts_more Part a (end ∷ ends) b c way part = (way.0, parts_more Part end ends b c way.1 part)
 
@@ -17,18 +18,22 @@ pub through_more : (Part : ℕ → ℕ → Type 0) (a b c : ℕ) → Through Par
 through_more Part a b c way part = (way.0 ++ c ∷ [], parts_more Part a way.0 b c way.1 part)
 
 -- no way leads back
-parts_onward : (Part : ℕ → ℕ → Type 0) (Over : ℕ → Type 0) → Walks Part Over → (a : ℕ) (ends : List ℕ) (b : ℕ) → Parts Part a ends b → a ≤ b
+parts_onward : (Part : ℕ → ℕ → Type 0) (Over : ℕ → Type 0) → Walks Part Over → (a : ℕ) (ends : List ℕ) (b : ℕ)
+    → Parts Part a ends b → a ≤ b
 parts_onward Part Over walks a [] b way = omega arith
-parts_onward Part Over walks a (end ∷ ends) b way = omega (arith, walks.onward a end way.0, parts_onward Part Over walks end ends b way.1)
+parts_onward Part Over walks a (end ∷ ends) b way =
+    omega (arith, walks.onward a end way.0, parts_onward Part Over walks end ends b way.1)
 
-pub through_onward : (Part : ℕ → ℕ → Type 0) (Over : ℕ → Type 0) → Walks Part Over → (a b : ℕ) → Through Part a b → a ≤ b
+pub through_onward : (Part : ℕ → ℕ → Type 0) (Over : ℕ → Type 0) → Walks Part Over → (a b : ℕ) → Through Part a b
+    → a ≤ b
 through_onward Part Over walks a b way = parts_onward Part Over walks a way.0 b way.1
 
 -- where the parts are over lies ahead of each place on the way
 parts_ahead : (Part : ℕ → ℕ → Type 0) (Over : ℕ → Type 0) → Walks Part Over → (a : ℕ) (here there : List ℕ) (b e : ℕ)
     → Parts Part a here b → Parts Part a there e → Over e → Through Part b e
 parts_ahead Part Over walks a [] there b e way rest over = (there, subst (λ p. Parts Part p there e) way rest)
-parts_ahead Part Over walks a (x ∷ here) [] b e way rest over = absurd (walks.goes_on a x way.0 (subst Over (sym rest) over))
+parts_ahead Part Over walks a (x ∷ here) [] b e way rest over =
+    absurd (walks.goes_on a x way.0 (subst Over (sym rest) over))
 parts_ahead Part Over walks a (x ∷ here) (y ∷ there) b e way rest over =
     let same : y ≡ x = walks.once a y x rest.0 way.0 in
     parts_ahead Part Over walks x here there b e way.1 (subst (λ p. Parts Part p there e) same rest.1) over

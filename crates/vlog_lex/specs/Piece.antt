@@ -97,8 +97,9 @@ number a value = if nat_lt value (2 ^ 32) then Tok (token.Number value) else Fau
 -- digits from a to n, then a literal where an apostrophe follows, else a number
 abbrev pub NumberIs : Bool → List ℕ → ℕ → ℕ → ℕ → Kind → Type 0
 NumberIs true bytes a n b kind =
-    IsRun is_literal_byte bytes (n + 2) b
-    × (kind ≡ literal a (written 10 (slice_range bytes a n)) (base_of (slice_index bytes (n + 1))) (slice_range bytes (n + 2) b))
+    let size = written 10 (slice_range bytes a n) in
+    let base = base_of (slice_index bytes (n + 1)) in
+    IsRun is_literal_byte bytes (n + 2) b × (kind ≡ literal a size base (slice_range bytes (n + 2) b))
 NumberIs false bytes a n b kind = (b ≡ n) × (kind ≡ number a (written 10 (slice_range bytes a n)))
 
 -- by each rule: from a to b stands a piece of this kind; where a fault ends says nothing
@@ -117,7 +118,8 @@ PieceBy Attribute bytes a b kind =
     ⊎ (((e : ℕ) → EndsAttribute bytes (a + 2) e → ⊥) × (b ≡ a) × (kind ≡ Fault (fault.OpenAttribute a)))
 -- a backtick with the longest run of word bytes after it
 PieceBy Directive bytes a b kind =
-    (n : ℕ) × IsRun is_word_byte bytes (a + 1) n × DirectiveIs (directive_of (slice_range bytes (a + 1) n)) bytes a n b kind
+    (n : ℕ) × IsRun is_word_byte bytes (a + 1) n
+    × DirectiveIs (directive_of (slice_range bytes (a + 1) n)) bytes a n b kind
 -- a backslash with the longest run of graphic bytes after it
 PieceBy Escaped bytes a b kind = IsRun is_graphic bytes (a + 1) b × (kind ≡ escaped bytes a b)
 -- the longest run of word bytes

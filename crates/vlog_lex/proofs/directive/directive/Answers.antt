@@ -10,5 +10,10 @@ returns-in-DefaultNettype c =
     let bytes = c.args.bytes.now in
     let n = c.run_end-name_end.result in
     finds_map (DirectiveIs DefaultNettype bytes c.args.at n) (PieceBy case.Directive bytes c.args.at)
-    (λ b kind is. (n, c.run_end-name_end.ensures.run, subst (λ d. DirectiveIs d bytes c.args.at n b kind) c.in-DefaultNettype.ensures is))
+    (λ b kind is. (
+      n,
+      c.run_end-name_end.ensures.run,
+      subst (λ d. DirectiveIs d bytes c.args.at n b kind)
+          c.in-DefaultNettype.ensures is,
+    ))
     _ c.default_nettype.ensures

@@ -12,10 +12,12 @@ loop-byte-preserved c =
     elim c.if-byte-ne95.branch [
       | then-byte-ne95 w ↦
           let is = rw (w.from.ensures, w.from-then-byte-ne95.ensures, w.digit_of.ensures.worth) at w.bits-is in
-          low_digit c.args.base v c.if-byte-ne95.bits (2 ^ 128) digits i (omega arith) w.if-byte-ne95.true is ∙ c.loop-byte.invariant
+          low_digit c.args.base v c.if-byte-ne95.bits (2 ^ 128) digits i (omega arith) w.if-byte-ne95.true is
+          ∙ c.loop-byte.invariant
       | else-byte-ne95 w ↦
           rw w.bits-is
-          (ap (λ x. x % 2 ^ 128) (sym (past_underscore c.args.base v digits i (omega arith) w.if-byte-ne95.false)) ∙ c.loop-byte.invariant)
+          (ap (λ x. x % 2 ^ 128) (sym (past_underscore c.args.base v digits i (omega arith) w.if-byte-ne95.false))
+          ∙ c.loop-byte.invariant)
     ]
 
 pub returns-else-size-eq128 : goal.returns-else-size-eq128

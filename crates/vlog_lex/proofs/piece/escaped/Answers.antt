@@ -5,5 +5,6 @@ use Rattle.vlog_lex.proofs.piece.escaped.Goals as goal
 
 pub name_of-requires : goal.name_of-requires
 name_of-requires c =
-    run_is_name is_graphic c.args.bytes.now (c.args.at + 1) c.run_end-end.result (λ byte has. has) c.run_end-end.ensures.run (omega arith) (omega arith)
+    run_is_name is_graphic c.args.bytes.now (c.args.at + 1) c.run_end-end.result (λ byte has. has)
+    c.run_end-end.ensures.run (omega arith) (omega arith)
     c.run_end-end.ensures.within

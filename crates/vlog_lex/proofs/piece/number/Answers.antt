@@ -15,6 +15,7 @@ returns-then-byte_at-eq39 c =
     (λ b kind is. (
       n,
       c.run_end-end.ensures.run,
-      subst (λ here. NumberIs here bytes c.args.at n b kind) (sym (eq-eqb (slice_index bytes n) apostrophe (sym c.byte_at.ensures ∙ c.if-byte_at-eq39.true))) is,
+      subst (λ here. NumberIs here bytes c.args.at n b kind)
+          (sym (eq-eqb (slice_index bytes n) apostrophe (sym c.byte_at.ensures ∙ c.if-byte_at-eq39.true))) is,
     ))
     _ c.literal.ensures

@@ -37,9 +37,11 @@ returns-in-Number c =
 pub returns-in-Apostrophe : goal.returns-in-Apostrophe
 returns-in-Apostrophe c =
     let applies = rw c.byte_at.ensures at (sym c.in-Apostrophe.ensures) in
-    by_rule case.Apostrophe c.args.bytes.now c.args.at c.requires.place applies (Err (fault.BadLiteral c.args.at)) (c.args.at, (refl, refl))
+    by_rule case.Apostrophe c.args.bytes.now c.args.at c.requires.place applies (Err (fault.BadLiteral c.args.at))
+    (c.args.at, (refl, refl))
 
 pub returns-in-Unfit : goal.returns-in-Unfit
 returns-in-Unfit c =
     let applies = rw c.byte_at.ensures at (sym c.in-Unfit.ensures) in
-    by_rule case.Unfit c.args.bytes.now c.args.at c.requires.place applies (Err (fault.BadByte c.args.at)) (c.args.at, (refl, refl))
+    by_rule case.Unfit c.args.bytes.now c.args.at c.requires.place applies (Err (fault.BadByte c.args.at))
+    (c.args.at, (refl, refl))
