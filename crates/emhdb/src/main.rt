@@ -3,10 +3,10 @@
 
 ghost use Rattle.std.specs.Prelude.{◌≡◌, ◌≤◌};
 ghost use Rattle.std.specs.IoError.{error_kind};
-ghost use Rattle.std.specs.declared.io.error.ErrorKind.{ErrorKind};
 
 use emh_io::{FileShelf, OutSink};
 use emh_shell::run;
+use std::io::ErrorKind;
 use std::process::ExitCode;
 use std::rt::Runtime;
 use std::{env, io};
@@ -55,10 +55,12 @@ fn status_of<R: Runtime + AllocGlobal>(rt: &R, words: &[String]) -> u8
 
 /// The status where the words can't be had.
 fn status_without_words(error: &io::Error) -> u8
-    ensures { result ≤ 5 }
+    ensures memory { error_kind error.now ≡ ErrorKind.OutOfMemory → result ≡ 5 }
+    ensures text { ¬ error_kind error.now ≡ ErrorKind.OutOfMemory → result ≡ 2 }
+    ensures statuses { result ≤ 5 }
 {
     match error.kind() {
-        io::ErrorKind::OutOfMemory => NO_MEMORY,
+        ErrorKind::OutOfMemory => NO_MEMORY,
         _ => NO_WORDS,
     }
 }
