@@ -23,3 +23,6 @@ pub use laws::two_level_pins;
 pub use play::run;
 pub use reply::LoadReply;
 pub use stand::Stand;
+
+#[cfg(test)]
+mod tests;
