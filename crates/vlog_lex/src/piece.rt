@@ -15,12 +15,9 @@ use crate::found::Found;
 use crate::number::{are_digits, base_of, decimal, low_bits};
 use crate::place::{byte_at, comment_end, line_end};
 use crate::token::{LexFault, TokenKind};
-use emh_base::{Name, NameFault};
+use emh_base::{NAME_LIMIT, Name, NameFault};
 use std::alloc::Global;
 use word_table::reserved_words;
-
-/// The most bytes that a name may have.
-const NAME_LIMIT: usize = 1024;
 
 /// What stands at a place: the first rule that applies there is taken.
 pub fn piece(alloc: Global, bytes: &[u8], at: usize) -> Result<Found, LexFault>
