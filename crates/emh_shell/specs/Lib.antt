@@ -7,3 +7,4 @@ pub mod Play
 pub mod Causes
 pub mod TwoLevel
 pub mod Way
+pub mod Outcome

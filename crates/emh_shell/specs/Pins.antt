@@ -42,7 +42,8 @@ root_text M top (Some (Own path net offset)) =
 -- a line `PIN ROOT` for a bit of a leaf's port, whose inner net is given
 abbrev pub pin_line : Plain → ModId → List InstId → PNet → ℕ → List ℕ
 pin_line M top up net offset =
-    pin_text (names_up M top up) net.name net.range offset ++ (codes " " ++ (root_text M top (pin_root M top up net.id offset) ++ codes "\n"))
+    pin_text (names_up M top up) net.name net.range offset
+    ++ (codes " " ++ (root_text M top (pin_root M top up net.id offset) ++ codes "\n"))
 
 -- a line for each bit of a port, from the left
 abbrev pub port_lines : Plain → ModId → List InstId → Option PNet → List ℕ

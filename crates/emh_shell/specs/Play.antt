@@ -20,7 +20,8 @@ ok_line line = codes "ok " ++ (decimal line ++ codes "\n")
 
 -- `refused LINE CODE RULE word WORD`
 abbrev pub refused_line : ℕ → List ℕ → List ℕ → List ℕ
-refused_line line rule word = codes "refused " ++ (decimal line ++ (codes " " ++ (rule ++ (codes " word " ++ (word ++ codes "\n")))))
+refused_line line rule word =
+    codes "refused " ++ (decimal line ++ (codes " " ++ (rule ++ (codes " word " ++ (word ++ codes "\n")))))
 
 abbrev pub usage_line : List ℕ
 usage_line = codes "usage emhdb [--budget N] SCRIPT\n"
@@ -94,15 +95,20 @@ fault_line NoMemory = []
 -- a script is played line by line, once each of its lines is a command
 abbrev pub PlaysLines : Files → List ℕ → List ℕ → ℕ → Type 0
 PlaysLines files script text status =
-    MatchResult (script_of script) (λ commands. Plays files start commands text status) (λ fault. (text ≡ fault_line fault) × (status ≡ 2))
+    MatchResult (script_of script)
+    (λ commands. Plays files start commands text status)
+    (λ fault. (text ≡ fault_line fault) × (status ≡ 2))
 
 -- and where it has at most 67,108,864 bytes
 abbrev pub PlaysScript : Files → List ℕ → List ℕ → ℕ → Type 0
 PlaysScript files script text status =
-    MatchBool (nat_lt FILE_LIMIT (length script)) ((text ≡ codes "script too long\n") × (status ≡ 2)) (PlaysLines files script text status)
+    MatchBool (nat_lt FILE_LIMIT (length script))
+    ((text ≡ codes "script too long\n") × (status ≡ 2))
+    (PlaysLines files script text status)
 
 -- The plain session of a command line's words over files: its text and its status. The one word is the script's name.
 abbrev pub Play : Files → List (List ℕ) → List ℕ → ℕ → Type 0
 Play files [] text status = (text ≡ usage_line) × (status ≡ 2)
-Play files (name ∷ []) text status = MatchOption (held files name) ((text ≡ []) × (status ≡ 3)) (λ script. PlaysScript files script text status)
+Play files (name ∷ []) text status =
+    MatchOption (held files name) ((text ≡ []) × (status ≡ 3)) (λ script. PlaysScript files script text status)
 Play files (first ∷ second ∷ others) text status = (text ≡ usage_line) × (status ≡ 2)

@@ -47,14 +47,16 @@ report_of (kind ∷ more ∷ others) = None
 abbrev pub load_of : List (List ℕ) → Option Command
 load_of [] = None
 load_of (file ∷ []) = None
-load_of (file ∷ top ∷ []) = if is_name file && (is_identifier top && is_name top) then Some (Load file top) else None
+load_of (file ∷ top ∷ []) =
+    if is_name file && (is_identifier top && is_name top) then Some (Load file top) else None
 load_of (file ∷ top ∷ more ∷ others) = None
 
 -- what a line's words ask for
 abbrev pub command_of : List (List ℕ) → Option Command
 command_of [] = None
 command_of (first ∷ others) =
-    if bytes_eq first (codes "report") then report_of others else (if bytes_eq first (codes "load") then load_of others else None)
+    if bytes_eq first (codes "report") then report_of others
+    else (if bytes_eq first (codes "load") then load_of others else None)
 
 -- commands in front of those read
 abbrev pub with_front : List Command → Result (List Command) ScriptFault → Result (List Command) ScriptFault
@@ -65,11 +67,13 @@ with_front front (Err fault) = Err fault
 abbrev pub commands_of : ℕ → List (List ℕ) → Result (List Command) ScriptFault
 commands_of number [] = Ok []
 commands_of number (line ∷ lines) =
-    option_map_or (λ command. with_front (command ∷ []) (commands_of (number + 1) lines)) (command_of (words_of line)) (Err (BadLine number))
+    option_map_or (λ command. with_front (command ∷ []) (commands_of (number + 1) lines))
+    (command_of (words_of line)) (Err (BadLine number))
 
 -- The commands of a script. Its number of lines is looked at first.
 abbrev pub script_of : List ℕ → Result (List Command) ScriptFault
-script_of bytes = if nat_lt LINE_LIMIT (length (lines_of bytes)) then Err TooManyLines else commands_of 1 (lines_of bytes)
+script_of bytes =
+    if nat_lt LINE_LIMIT (length (lines_of bytes)) then Err TooManyLines else commands_of 1 (lines_of bytes)
 
 -- the answer is the one wanted, unless memory was wanting
 abbrev pub IsScriptAnswer : Result (List Command) ScriptFault → Result (List Command) ScriptFault → Type 0

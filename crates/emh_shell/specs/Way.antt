@@ -31,7 +31,8 @@ HasPlaces ports places = (net : ℕ) → get nat_eq places net ≡ position (λ 
 -- there is such a map for each module, in their order
 pub record HasAllPlaces (modules : List PModule) (all : List Places) : Type 0 where
   pub as_many : length all ≡ length modules
-  pub each : (k : ℕ) (m : PModule) (places : Places) → k < length modules → HasPlaces (slice_index_or modules k m).ports (slice_index_or all k places)
+  pub each : (k : ℕ) (m : PModule) (places : Places) → k < length modules →
+      HasPlaces (slice_index_or modules k m).ports (slice_index_or all k places)
 
 -- the upward path of a way that is given from its last step
 abbrev pub ids_of : List Step → List InstId
@@ -51,7 +52,8 @@ abbrev pub lines_below : Plain → ModId → List InstId → PModule → ℕ →
 lines_below M top path m zero = []
 lines_below M top path m (suc levels) =
     leaf_lines M top (reverse path) (Some m)
-    ++ flat_map (λ inst. flat_map (occurrence_lines M top) (unfolded M (path ++ inst.id ∷ []) inst.master levels)) m.insts
+    ++ flat_map
+    (λ inst. flat_map (occurrence_lines M top) (unfolded M (path ++ inst.id ∷ []) inst.master levels)) m.insts
 
 -- a step from the occurrence at an upward path: its instance and master, and the front text of the occurrence below
 pub record IsStep (M : Plain) (top : ModId) (step : Step) (up : List InstId) (front : List ℕ) : Type 0 where
@@ -62,8 +64,8 @@ pub record IsStep (M : Plain) (top : ModId) (step : Step) (up : List InstId) (fr
   pub text : front ≡ front_text (names_up M top (step.inst.now.id ∷ up))
   pub above : step.front ≤ length front
 
--- The steps, from the last one, lead up to the top of the design; front is the text that stands before the name of a net
--- in the occurrence at their end.
+-- The steps, from the last one, lead up to the top of the design; front is the text that stands before the name of a
+-- net in the occurrence at their end.
 unfoldable pub IsWay : Plain → ModId → List Step → List ℕ → Type 0
 IsWay M top [] front = front ≡ []
 IsWay M top (step ∷ up) front = IsStep M top step (ids_of up) front × IsWay M top up (take step.front front)

@@ -140,7 +140,8 @@ fn push_leaf_lines(
     requires below { 0 < length way.now }
     requires sound { IsSoundModule design.now.plain leaf.now }
     ensures { OnOk result (out.new ≡ out.old ++ flat_map
-        (λ port. port_lines design.now.plain design.now.top (ids_of (reverse way.now)) (net_of leaf.now port.net)) leaf.now.ports) }
+        (λ port. port_lines design.now.plain design.now.top (ids_of (reverse way.now)) (net_of leaf.now port.net))
+        leaf.now.ports) }
 {
     for port in leaf.ports.as_slice() {
         if let Some(net) = net_of(leaf, port.net) {
@@ -150,8 +151,8 @@ fn push_leaf_lines(
     Ok(())
 }
 
-/// Puts the lines of an instance of the occurrence at the end of the way last, and those of all that is below it, down to
-/// so many levels. After it the way and its front text are as before.
+/// Puts the lines of an instance of the occurrence at the end of the way last, and those of all that is below it, down
+/// to so many levels. After it the way and its front text are as before.
 #[cycle(below)]
 fn push_instance<'a>(
     design: &'a Design,
@@ -164,7 +165,8 @@ fn push_instance<'a>(
 ) -> Result<(), NoMemory>
     requires places { HasAllPlaces design.now.plain.modules ports.now }
     requires way { IsWay design.now.plain design.now.top (reverse way.old.items) front.old }
-    requires inst { inst_up design.now.plain design.now.top inst.now.id (ids_of (reverse way.old.items)) ≡ Some inst.now }
+    requires inst { inst_up design.now.plain design.now.top inst.now.id (ids_of (reverse way.old.items))
+        ≡ Some inst.now }
     ensures out { OnOk result (out.new ≡ out.old ++ flat_map (occurrence_lines design.now.plain design.now.top)
         (unfolded design.now.plain (path_of way.old.items ++ inst.now.id ∷ []) inst.now.master levels)) }
     ensures way { OnOk result (way.new.items ≡ way.old.items) }
@@ -208,7 +210,8 @@ fn push_occurrence<'a>(
     requires holder { module_up design.now.plain design.now.top (ids_of (reverse way.old.items)) ≡ Some holder.now }
     requires sound { IsSoundModule design.now.plain holder.now }
     requires leaf { IsTrue holder.now.leaf → 0 < vec_len way.old }
-    ensures out { OnOk result (out.new ≡ out.old ++ lines_below design.now.plain design.now.top (path_of way.old.items) holder.now levels) }
+    ensures out { OnOk result (out.new ≡ out.old
+        ++ lines_below design.now.plain design.now.top (path_of way.old.items) holder.now levels) }
     ensures way { OnOk result (way.new.items ≡ way.old.items) }
     ensures front { OnOk result (front.new ≡ front.old) }
 {
@@ -224,8 +227,8 @@ fn push_occurrence<'a>(
     Ok(())
 }
 
-/// The report of all leaf pins: a line `PIN ROOT` for each bit of each pin of each leaf occurrence. The occurrences come
-/// in preorder, instances by rising id, pins in port order, bits from the left.
+/// The report of all leaf pins: a line `PIN ROOT` for each bit of each pin of each leaf occurrence. The occurrences
+/// come in preorder, instances by rising id, pins in port order, bits from the left.
 pub fn report_pins(alloc: Global, design: &Design) -> Result<List<u8>, NoMemory>
     ensures { IfOk result (λ text. text ≡ pins_text design.now.plain design.now.top) }
 {

@@ -5,7 +5,8 @@ ghost use Rattle.emh_io.specs.Put.{gains};
 ghost use Rattle.emh_shell.specs.Script.{script_of};
 ghost use Rattle.emh_shell.specs.Load.{Loads};
 ghost use Rattle.emh_shell.specs.Play.{Play, Plays, PlaysLines, start, Steps, Fetches, usage_line, fault_line, report_text, after_report, after_load, load_text};
-ghost use Rattle.emh_shell.specs.Causes.{Asks, AsksInScript, CannotFetch};
+ghost use Rattle.emh_shell.specs.Causes.{Asks, AsksInScript};
+ghost use Rattle.emh_shell.specs.Outcome.{WhereTold, Prints, FailsToFetch};
 
 use crate::command::Command;
 use crate::fault::{Halt, ScriptFault};
@@ -18,26 +19,28 @@ use std::alloc::Global;
 
 /// Runs the script that the one word names, over a shelf of files, and prints all that it says to a sink.
 ///
-/// The status is 0 where each command was accepted and 1 where one was refused; 2 where the words aren't one name or the
-/// bytes are no script, and then nothing runs; 3 where a file can't be fetched; 4 where the text can't be written; 5 for
-/// want of memory. At 3, 4 and 5 nothing more is printed.
+/// The status is 0 where each command was accepted and 1 where one was refused; 2 where the words aren't one name or
+/// the bytes are no script, and then nothing runs; 3 where a file can't be fetched; 4 where the text can't be written;
+/// 5 for want of memory. At 3, 4 and 5 nothing more is printed.
 pub fn run<F: Shelf, K: Sink>(alloc: Global, words: &[String], shelf: &mut F, out: &mut K) -> u8
-    // Over a shelf that tells its files the text and the status are those of the plain session.
-    ensures played { (files : Files) → F.holds shelf.old ≡ Some files → result < 3 →
-        (text : List ℕ) × (K.written out.new ≡ gains (K.written out.old) text) × Play files (map string_bytes words.now) text result }
-    // And where nothing failed in this run, the session's status 3 too, or memory was wanting.
-    ensures complete { (files : Files) → F.holds shelf.old ≡ Some files
-        → ¬ Rose (F.fetch_faults shelf.old) (F.fetch_faults shelf.new) → ¬ Rose (K.faults out.old) (K.faults out.new)
-        → (result ≡ 5) ⊎ ((text : List ℕ) × (K.written out.new ≡ gains (K.written out.old) text) × Play files (map string_bytes words.now) text result) }
-    // A file that the words or a line ask for isn't held, or the shelf failed at it in this run.
-    ensures fetch { result ≡ 3 → (name : List ℕ) × Asks (F.holds shelf.old) (map string_bytes words.now) name
-        × CannotFetch (F.holds shelf.old) (F.fetch_faults shelf.old) (F.fetch_faults shelf.new) (F.failed shelf.new) name }
+    // Over a shelf that tells its files, the text and the status are those of the plain session.
+    ensures played { WhereTold (F.holds shelf.old) (λ files. result < 3 →
+        Prints (K.written out.old) (K.written out.new) (λ text. Play files (map string_bytes words.now) text result)) }
+    // And where nothing failed in this run, its status 3 too, unless memory was wanting.
+    ensures complete { WhereTold (F.holds shelf.old) (λ files.
+        ¬ Rose (F.fetch_faults shelf.old) (F.fetch_faults shelf.new) → ¬ Rose (K.faults out.old) (K.faults out.new) →
+        (result ≡ 5) ⊎ Prints (K.written out.old) (K.written out.new)
+        (λ text. Play files (map string_bytes words.now) text result)) }
+    // The script, or a file that one of its lines asks for, isn't held, or the shelf failed at it in this run.
+    ensures fetch { result ≡ 3 → FailsToFetch (Asks (F.holds shelf.old) (map string_bytes words.now))
+        (F.holds shelf.old) (F.fetch_faults shelf.old) (F.fetch_faults shelf.new) (F.failed shelf.new) }
     // The sink failed in this run.
     ensures put { result ≡ 4 → Rose (K.faults out.old) (K.faults out.new) }
-    // The files are as before.
+    // The shelf holds what it held.
     ensures kept { F.holds shelf.new ≡ F.holds shelf.old }
     // At 0, 1 and 2 nothing failed.
-    ensures quiet { result < 3 → (F.fetch_faults shelf.new ≡ F.fetch_faults shelf.old) × (K.faults out.new ≡ K.faults out.old) }
+    ensures quiet { result < 3 → (F.fetch_faults shelf.new ≡ F.fetch_faults shelf.old)
+        × (K.faults out.new ≡ K.faults out.old) }
     ensures statuses { result ≤ 5 }
 {
     match played(alloc, words, shelf, out) {
@@ -50,7 +53,8 @@ pub fn run<F: Shelf, K: Sink>(alloc: Global, words: &[String], shelf: &mut F, ou
 
 /// Writes a text whole.
 fn put_all<K: Sink>(out: &mut K, text: &[u8]) -> Result<(), Halt>
-    ensures ok { OnOk result ((K.written out.new ≡ gains (K.written out.old) text.now) × (K.faults out.new ≡ K.faults out.old)) }
+    ensures ok { OnOk result ((K.written out.new ≡ gains (K.written out.old) text.now)
+        × (K.faults out.new ≡ K.faults out.old)) }
     ensures put { IsErrOf result Halt.Put → Rose (K.faults out.old) (K.faults out.new) }
     ensures fetch { IsErrOf result Halt.Fetch → ⊥ }
 {
@@ -73,15 +77,17 @@ fn play<F: Shelf, K: Sink>(
     out: &mut K,
 ) -> Result<u8, Halt>
     requires { length commands.now ≤ 1000000 }
-    ensures ok { (files : Files) → F.holds shelf.old ≡ Some files → IfOk result (λ status.
-        (text : List ℕ) × (K.written out.new ≡ gains (K.written out.old) text) × Plays files start commands.now text status) }
-    ensures fetch { IsErrOf result Halt.Fetch → (name : List ℕ) × Any (λ command. Fetches command name) commands.now
-        × CannotFetch (F.holds shelf.old) (F.fetch_faults shelf.old) (F.fetch_faults shelf.new) (F.failed shelf.new) name }
-    ensures stopped { (files : Files) → F.holds shelf.old ≡ Some files → ¬ Rose (F.fetch_faults shelf.old) (F.fetch_faults shelf.new)
-        → IsErrOf result Halt.Fetch → (text : List ℕ) × (K.written out.new ≡ gains (K.written out.old) text) × Plays files start commands.now text 3 }
+    ensures ok { WhereTold (F.holds shelf.old) (λ files. IfOk result (λ status.
+        Prints (K.written out.old) (K.written out.new) (λ text. Plays files start commands.now text status))) }
+    ensures fetch { IsErrOf result Halt.Fetch → FailsToFetch
+        (λ name. Any (λ command. Fetches command name) commands.now) (F.holds shelf.old) (F.fetch_faults shelf.old) (F.fetch_faults shelf.new) (F.failed shelf.new) }
+    ensures stopped { WhereTold (F.holds shelf.old) (λ files.
+        ¬ Rose (F.fetch_faults shelf.old) (F.fetch_faults shelf.new) → IsErrOf result Halt.Fetch →
+        Prints (K.written out.old) (K.written out.new) (λ text. Plays files start commands.now text 3)) }
     ensures put { IsErrOf result Halt.Put → Rose (K.faults out.old) (K.faults out.new) }
     ensures kept { F.holds shelf.new ≡ F.holds shelf.old }
-    ensures faults { OnOk result ((F.fetch_faults shelf.new ≡ F.fetch_faults shelf.old) × (K.faults out.new ≡ K.faults out.old)) }
+    ensures faults { OnOk result ((F.fetch_faults shelf.new ≡ F.fetch_faults shelf.old)
+        × (K.faults out.new ≡ K.faults out.old)) }
     ensures status { IfOk result (λ status. status < 2) }
 {
     let mut stand = Stand {
@@ -103,15 +109,17 @@ fn played<F: Shelf, K: Sink>(
     shelf: &mut F,
     out: &mut K,
 ) -> Result<u8, Halt>
-    ensures ok { (files : Files) → F.holds shelf.old ≡ Some files → IfOk result (λ status.
-        (text : List ℕ) × (K.written out.new ≡ gains (K.written out.old) text) × Play files (map string_bytes words.now) text status) }
-    ensures fetch { IsErrOf result Halt.Fetch → (name : List ℕ) × Asks (F.holds shelf.old) (map string_bytes words.now) name
-        × CannotFetch (F.holds shelf.old) (F.fetch_faults shelf.old) (F.fetch_faults shelf.new) (F.failed shelf.new) name }
-    ensures stopped { (files : Files) → F.holds shelf.old ≡ Some files → ¬ Rose (F.fetch_faults shelf.old) (F.fetch_faults shelf.new)
-        → IsErrOf result Halt.Fetch → (text : List ℕ) × (K.written out.new ≡ gains (K.written out.old) text) × Play files (map string_bytes words.now) text 3 }
+    ensures ok { WhereTold (F.holds shelf.old) (λ files. IfOk result (λ status.
+        Prints (K.written out.old) (K.written out.new) (λ text. Play files (map string_bytes words.now) text status))) }
+    ensures fetch { IsErrOf result Halt.Fetch → FailsToFetch (Asks (F.holds shelf.old) (map string_bytes words.now))
+        (F.holds shelf.old) (F.fetch_faults shelf.old) (F.fetch_faults shelf.new) (F.failed shelf.new) }
+    ensures stopped { WhereTold (F.holds shelf.old) (λ files.
+        ¬ Rose (F.fetch_faults shelf.old) (F.fetch_faults shelf.new) → IsErrOf result Halt.Fetch →
+        Prints (K.written out.old) (K.written out.new) (λ text. Play files (map string_bytes words.now) text 3)) }
     ensures put { IsErrOf result Halt.Put → Rose (K.faults out.old) (K.faults out.new) }
     ensures kept { F.holds shelf.new ≡ F.holds shelf.old }
-    ensures faults { OnOk result ((F.fetch_faults shelf.new ≡ F.fetch_faults shelf.old) × (K.faults out.new ≡ K.faults out.old)) }
+    ensures faults { OnOk result ((F.fetch_faults shelf.new ≡ F.fetch_faults shelf.old)
+        × (K.faults out.new ≡ K.faults out.old)) }
     ensures status { IfOk result (λ status. status < 3) }
 {
     match words {
@@ -122,7 +130,8 @@ fn played<F: Shelf, K: Sink>(
 
 /// Writes the usage line.
 fn print_usage<K: Sink>(alloc: Global, out: &mut K) -> Result<u8, Halt>
-    ensures ok { IfOk result (λ status. (status ≡ 2) × (K.written out.new ≡ gains (K.written out.old) usage_line) × (K.faults out.new ≡ K.faults out.old)) }
+    ensures ok { IfOk result (λ status. (status ≡ 2) × (K.written out.new ≡ gains (K.written out.old) usage_line)
+        × (K.faults out.new ≡ K.faults out.old)) }
     ensures put { IsErrOf result Halt.Put → Rose (K.faults out.old) (K.faults out.new) }
     ensures fetch { IsErrOf result Halt.Fetch → ⊥ }
 {
@@ -138,15 +147,17 @@ fn played_script<F: Shelf, K: Sink>(
     shelf: &mut F,
     out: &mut K,
 ) -> Result<u8, Halt>
-    ensures ok { (files : Files) → F.holds shelf.old ≡ Some files → IfOk result (λ status.
-        (text : List ℕ) × (K.written out.new ≡ gains (K.written out.old) text) × Play files (name.now ∷ []) text status) }
-    ensures fetch { IsErrOf result Halt.Fetch → (file : List ℕ) × Asks (F.holds shelf.old) (name.now ∷ []) file
-        × CannotFetch (F.holds shelf.old) (F.fetch_faults shelf.old) (F.fetch_faults shelf.new) (F.failed shelf.new) file }
-    ensures stopped { (files : Files) → F.holds shelf.old ≡ Some files → ¬ Rose (F.fetch_faults shelf.old) (F.fetch_faults shelf.new)
-        → IsErrOf result Halt.Fetch → (text : List ℕ) × (K.written out.new ≡ gains (K.written out.old) text) × Play files (name.now ∷ []) text 3 }
+    ensures ok { WhereTold (F.holds shelf.old) (λ files. IfOk result (λ status.
+        Prints (K.written out.old) (K.written out.new) (λ text. Play files (name.now ∷ []) text status))) }
+    ensures fetch { IsErrOf result Halt.Fetch → FailsToFetch (Asks (F.holds shelf.old) (name.now ∷ []))
+        (F.holds shelf.old) (F.fetch_faults shelf.old) (F.fetch_faults shelf.new) (F.failed shelf.new) }
+    ensures stopped { WhereTold (F.holds shelf.old) (λ files.
+        ¬ Rose (F.fetch_faults shelf.old) (F.fetch_faults shelf.new) → IsErrOf result Halt.Fetch →
+        Prints (K.written out.old) (K.written out.new) (λ text. Play files (name.now ∷ []) text 3)) }
     ensures put { IsErrOf result Halt.Put → Rose (K.faults out.old) (K.faults out.new) }
     ensures kept { F.holds shelf.new ≡ F.holds shelf.old }
-    ensures faults { OnOk result ((F.fetch_faults shelf.new ≡ F.fetch_faults shelf.old) × (K.faults out.new ≡ K.faults out.old)) }
+    ensures faults { OnOk result ((F.fetch_faults shelf.new ≡ F.fetch_faults shelf.old)
+        × (K.faults out.new ≡ K.faults out.old)) }
     ensures status { IfOk result (λ status. status < 3) }
 {
     match shelf.fetch(name) {
@@ -160,7 +171,8 @@ fn played_script<F: Shelf, K: Sink>(
 
 /// Writes that the script is too long.
 fn print_too_long<K: Sink>(out: &mut K) -> Result<u8, Halt>
-    ensures ok { IfOk result (λ status. (status ≡ 2) × (K.written out.new ≡ gains (K.written out.old) (codes "script too long\n")) × (K.faults out.new ≡ K.faults out.old)) }
+    ensures ok { IfOk result (λ status. (status ≡ 2)
+        × (K.written out.new ≡ gains (K.written out.old) (codes "script too long\n")) × (K.faults out.new ≡ K.faults out.old)) }
     ensures put { IsErrOf result Halt.Put → Rose (K.faults out.old) (K.faults out.new) }
     ensures fetch { IsErrOf result Halt.Fetch → ⊥ }
 {
@@ -175,15 +187,17 @@ fn play_script<F: Shelf, K: Sink>(
     shelf: &mut F,
     out: &mut K,
 ) -> Result<u8, Halt>
-    ensures ok { (files : Files) → F.holds shelf.old ≡ Some files → IfOk result (λ status.
-        (text : List ℕ) × (K.written out.new ≡ gains (K.written out.old) text) × PlaysLines files script.now text status) }
-    ensures fetch { IsErrOf result Halt.Fetch → (file : List ℕ) × AsksInScript script.now file
-        × CannotFetch (F.holds shelf.old) (F.fetch_faults shelf.old) (F.fetch_faults shelf.new) (F.failed shelf.new) file }
-    ensures stopped { (files : Files) → F.holds shelf.old ≡ Some files → ¬ Rose (F.fetch_faults shelf.old) (F.fetch_faults shelf.new)
-        → IsErrOf result Halt.Fetch → (text : List ℕ) × (K.written out.new ≡ gains (K.written out.old) text) × PlaysLines files script.now text 3 }
+    ensures ok { WhereTold (F.holds shelf.old) (λ files. IfOk result (λ status.
+        Prints (K.written out.old) (K.written out.new) (λ text. PlaysLines files script.now text status))) }
+    ensures fetch { IsErrOf result Halt.Fetch → FailsToFetch (AsksInScript script.now)
+        (F.holds shelf.old) (F.fetch_faults shelf.old) (F.fetch_faults shelf.new) (F.failed shelf.new) }
+    ensures stopped { WhereTold (F.holds shelf.old) (λ files.
+        ¬ Rose (F.fetch_faults shelf.old) (F.fetch_faults shelf.new) → IsErrOf result Halt.Fetch →
+        Prints (K.written out.old) (K.written out.new) (λ text. PlaysLines files script.now text 3)) }
     ensures put { IsErrOf result Halt.Put → Rose (K.faults out.old) (K.faults out.new) }
     ensures kept { F.holds shelf.new ≡ F.holds shelf.old }
-    ensures faults { OnOk result ((F.fetch_faults shelf.new ≡ F.fetch_faults shelf.old) × (K.faults out.new ≡ K.faults out.old)) }
+    ensures faults { OnOk result ((F.fetch_faults shelf.new ≡ F.fetch_faults shelf.old)
+        × (K.faults out.new ≡ K.faults out.old)) }
     ensures status { IfOk result (λ status. status < 3) }
 {
     match read_script(alloc, script) {
@@ -195,7 +209,8 @@ fn play_script<F: Shelf, K: Sink>(
 
 /// Writes what is wrong with a script.
 fn print_fault<K: Sink>(alloc: Global, fault: ScriptFault, out: &mut K) -> Result<u8, Halt>
-    ensures ok { IfOk result (λ status. (status ≡ 2) × (K.written out.new ≡ gains (K.written out.old) (fault_line fault)) × (K.faults out.new ≡ K.faults out.old)) }
+    ensures ok { IfOk result (λ status. (status ≡ 2)
+        × (K.written out.new ≡ gains (K.written out.old) (fault_line fault)) × (K.faults out.new ≡ K.faults out.old)) }
     ensures put { IsErrOf result Halt.Put → Rose (K.faults out.old) (K.faults out.new) }
     ensures fetch { IsErrOf result Halt.Fetch → ⊥ }
 {

@@ -98,7 +98,8 @@ fn read_load(alloc: Global, words: &[&[u8]]) -> Result<Option<Command>, NoMemory
 
 fn load_command(alloc: Global, file: &[u8], top: &[u8]) -> Result<Option<Command>, NoMemory>
     ensures { IfOk result (λ command. command ≡
-        (if is_name file.now && (is_identifier top.now && is_name top.now) then Some (Load file.now top.now) else None)) }
+        (if is_name file.now && (is_identifier top.now && is_name top.now)
+        then Some (Load file.now top.now) else None)) }
 {
     if !is_identifier(top) {
         return Ok(None);

@@ -3,6 +3,7 @@ ghost use Rattle.emh_io.specs.Files.{Files, held};
 ghost use Rattle.emh_shell.specs.Load.{Loads};
 ghost use Rattle.emh_shell.specs.Play.{Steps, Fetches, report_text, after_report, after_load, load_text};
 ghost use Rattle.emh_shell.specs.Causes.{CannotFetch};
+ghost use Rattle.emh_shell.specs.Outcome.{WhereTold, FailsToFetch};
 
 use crate::command::Command;
 use crate::fault::Halt;
@@ -23,10 +24,11 @@ pub fn step<F: Shelf>(
     shelf: &mut F,
 ) -> Result<List<u8>, Halt>
     requires { stand.old.line + 1 < 2 ^ 64 }
-    ensures ok { (files : Files) → F.holds shelf.old ≡ Some files → IfOk result (λ said. Steps files stand.old command.now said stand.new) }
+    ensures ok { WhereTold (F.holds shelf.old) (λ files.
+        IfOk result (λ said. Steps files stand.old command.now said stand.new)) }
     ensures line { OnOk result (stand.new.line ≡ stand.old.line + 1) }
-    ensures fetch { IsErrOf result Halt.Fetch → (name : List ℕ) × Fetches command.now name
-        × CannotFetch (F.holds shelf.old) (F.fetch_faults shelf.old) (F.fetch_faults shelf.new) (F.failed shelf.new) name }
+    ensures fetch { IsErrOf result Halt.Fetch → FailsToFetch (Fetches command.now)
+        (F.holds shelf.old) (F.fetch_faults shelf.old) (F.fetch_faults shelf.new) (F.failed shelf.new) }
     ensures put { IsErrOf result Halt.Put → ⊥ }
     ensures kept { F.holds shelf.new ≡ F.holds shelf.old }
     ensures faults { OnOk result (F.fetch_faults shelf.new ≡ F.fetch_faults shelf.old) }
@@ -42,10 +44,10 @@ pub fn step<F: Shelf>(
 
 /// What `load` answers of a file of the shelf.
 fn load<F: Shelf>(alloc: Global, file: &Name, top: &Name, shelf: &mut F) -> Result<LoadReply, Halt>
-    ensures ok { (files : Files) → F.holds shelf.old ≡ Some files →
-        IfOk result (λ reply. (bytes : List ℕ) × (held files file.now ≡ Some bytes) × Loads bytes top.now reply) }
-    ensures fetch { IsErrOf result Halt.Fetch →
-        CannotFetch (F.holds shelf.old) (F.fetch_faults shelf.old) (F.fetch_faults shelf.new) (F.failed shelf.new) file.now }
+    ensures ok { WhereTold (F.holds shelf.old) (λ files.
+        IfOk result (λ reply. (bytes : List ℕ) × (held files file.now ≡ Some bytes) × Loads bytes top.now reply)) }
+    ensures fetch { IsErrOf result Halt.Fetch → CannotFetch (F.holds shelf.old)
+        (F.fetch_faults shelf.old) (F.fetch_faults shelf.new) (F.failed shelf.new) file.now }
     ensures put { IsErrOf result Halt.Put → ⊥ }
     ensures kept { F.holds shelf.new ≡ F.holds shelf.old }
     ensures faults { OnOk result (F.fetch_faults shelf.new ≡ F.fetch_faults shelf.old) }
