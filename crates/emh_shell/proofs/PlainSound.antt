@@ -11,12 +11,12 @@ use Rattle.emh_base.specs.declared.plain.PModule.{PModule}
 use Rattle.emh_base.specs.declared.plain.Plain.{Plain}
 use Rattle.flatten_rules.specs.Sound.{IsSound, IsSoundModule, HasMaster, IsAllowed}
 use Rattle.flatten_rules.proofs.Walks.{find-own}
-use Rattle.vlog_read.specs.declared.netlist.Netlist.{Netlist}
-use Rattle.vlog_read.specs.declared.netlist.Module.{Module}
-use Rattle.vlog_read.specs.declared.netlist.Instance.{Instance}
-use Rattle.vlog_read.specs.Netlist.{net_names, module_named, IsInstance, IsModule, IsLeaf, AreModules, cells_of, all_modules, IsNetlist}
-use Rattle.vlog_read.specs.Table.{numbered, number_of, net_of, inst_of, module_of, table}
-use Rattle.vlog_read.specs.PlainFile.{IsPlainFile}
+use Rattle.vlog_plain.specs.declared.netlist.Netlist.{Netlist}
+use Rattle.vlog_plain.specs.declared.netlist.Module.{Module}
+use Rattle.vlog_plain.specs.declared.netlist.Instance.{Instance}
+use Rattle.vlog_plain.specs.Netlist.{net_names, module_named, IsInstance, IsModule, IsLeaf, AreModules, cells_of, all_modules, IsNetlist}
+use Rattle.vlog_plain.specs.Table.{numbered, number_of, net_of, inst_of, module_of, table}
+use Rattle.vlog_plain.specs.PlainFile.{IsPlainFile}
 
 -- Items that are numbered by their places.
 

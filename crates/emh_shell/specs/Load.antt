@@ -3,7 +3,7 @@ use Rattle.emh_base.specs.declared.plain.PModule.{PModule}
 use Rattle.emh_base.specs.declared.ids.ModId.{ModId}
 use Rattle.emh_base.specs.declared.plain.Plain.{Plain}
 use Rattle.emh_io.specs.declared.shelf.TheConstants.{FILE_LIMIT}
-use Rattle.vlog_read.specs.PlainFile.{IsPlainFile}
+use Rattle.vlog_plain.specs.PlainFile.{IsPlainFile}
 use Rattle.flatten_rules.specs.Design.{Opens}
 use Rattle.emh_shell.specs.declared.reply.LoadReply.{LoadReply}
 use Rattle.emh_shell.specs.declared.reply.LoadReply.TheVariants.{Opened, TooLong, NotBuilt}

@@ -1,7 +1,7 @@
 ghost use Rattle.std.specs.Prelude.{◌≡◌, IfOk, IfSome, MatchOption};
 ghost use Rattle.std.specs.Option.{option_copied};
 ghost use Rattle.emh_base.specs.declared.ids.ModId.{ModId};
-ghost use Rattle.vlog_read.specs.PlainFile.{IsPlainFile};
+ghost use Rattle.vlog_plain.specs.PlainFile.{IsPlainFile};
 ghost use Rattle.flatten_rules.specs.Sound.{IsSound};
 ghost use Rattle.flatten_rules.specs.Design.{Opens, module_named};
 ghost use Rattle.emh_shell.specs.Load.{IsReading, inner_id};
@@ -11,7 +11,7 @@ use crate::reply::LoadReply;
 use emh_base::{ModId, Name, NoMemory, PModule, Plain};
 use flatten_rules::is_within;
 use std::alloc::Global;
-use vlog_read::{PlainFault, read_plain};
+use vlog_plain::{PlainFault, read_plain};
 
 /// Reads a netlist of the plain form and opens a design at the named top.
 pub fn open_file(alloc: Global, bytes: &[u8], top: &Name) -> Result<LoadReply, NoMemory>
