@@ -1,7 +1,9 @@
 pub mod Lookup
 pub mod Unfolding
 pub mod Root
+pub mod Domains
 pub mod Sound
+pub mod Order
 pub mod Limits
 pub mod Extent
 pub mod Design
