@@ -1,35 +1,15 @@
-use Rattle.std.specs.Prelude.{ℕ, List, [], ◌∷◌, ◌++◌, reverse, Option, Some, None, option_and_then, codes}
+use Rattle.std.specs.Prelude.{ℕ, List, [], ◌++◌, reverse, Option, Some, None, codes}
 use Rattle.std.specs.List.{flat_map}
 use Rattle.emh_base.specs.declared.ids.ModId.{ModId}
-use Rattle.emh_base.specs.declared.ids.NetId.{NetId}
 use Rattle.emh_base.specs.declared.ids.InstId.{InstId}
 use Rattle.emh_base.specs.declared.plain.PNet.{PNet}
-use Rattle.emh_base.specs.declared.plain.PInst.{PInst}
 use Rattle.emh_base.specs.declared.plain.Plain.{Plain}
-use Rattle.emh_base.specs.Text.{bit_text, pin_text}
+use Rattle.emh_base.specs.Text.{pin_text}
 use Rattle.flatten_rules.specs.declared.root.Root.{Root}
 use Rattle.flatten_rules.specs.declared.root.Root.TheVariants.{Tie0, Tie1, Own}
-use Rattle.flatten_rules.specs.Lookup.{module_of, net_of}
-use Rattle.flatten_rules.specs.Unfolding.{module_up, inst_up}
+use Rattle.flatten_rules.specs.Lookup.{module_of}
 use Rattle.flatten_rules.specs.Domains.{Pin, pins, port_net, root_of_pin}
-
-abbrev pub inst_name : Option PInst → List ℕ
-inst_name None = []
-inst_name (Some inst) = inst.name
-
--- the names of an upward path's instances, from the top
-unfoldable pub names_up : Plain → ModId → List InstId → List (List ℕ)
-names_up M top [] = []
-names_up M top (i ∷ up) = names_up M top up ++ inst_name (inst_up M top i up) ∷ []
-
--- the text of a bit of a net of the occurrence at these names
-abbrev pub net_bit_text : List (List ℕ) → Option PNet → ℕ → List ℕ
-net_bit_text names None offset = []
-net_bit_text names (Some net) offset = bit_text names net.name net.range offset
-
--- the net of that id in the module at an upward path
-abbrev pub net_up : Plain → ModId → List InstId → NetId → Option PNet
-net_up M top up net = option_and_then (λ m. net_of m net) (module_up M top up)
+use Rattle.flatten_rules.specs.Texts.{names_up, net_up, net_bit_text}
 
 abbrev pub root_text : Plain → ModId → Option Root → List ℕ
 root_text M top None = codes "=open"

@@ -1,7 +1,7 @@
 ghost use Rattle.std.specs.Prelude.{◌≡◌, ◌==◌, ◌+◌, ◌≤◌, ◌<◌, ◌^◌, length, map, reverse, IfOk, Some, None, if◌then◌else◌, ◌&&◌};
 ghost use Rattle.std.specs.List.{list_all, slice_split};
 ghost use Rattle.emh_shell.specs.declared.command.Command.TheVariants.{Load};
-ghost use Rattle.emh_shell.specs.Script.{is_name, is_letter, is_identifier, lines_of, words_of, report_of, load_of, command_of, commands_of, continues, script_of, IsScriptAnswer};
+ghost use Rattle.emh_shell.specs.Script.{is_name, begins_word, is_identifier, lines_of, words_of, report_of, load_of, command_of, commands_of, continues, script_of, IsScriptAnswer};
 ghost use Rattle.emh_shell.specs.Texts.{texts};
 
 use crate::command::Command;
@@ -127,7 +127,7 @@ fn is_identifier(word: &[u8]) -> bool
 {
     match word {
         [] => false,
-        [first, others @ ..] => is_letter(*first) && all_continue(others),
+        [first, others @ ..] => begins_word(*first) && all_continue(others),
     }
 }
 
@@ -137,8 +137,8 @@ fn all_continue(bytes: &[u8]) -> bool
     bytes.iter().all(|byte| continues(*byte))
 }
 
-fn is_letter(byte: u8) -> bool
-    ensures { result ≡ is_letter byte }
+fn begins_word(byte: u8) -> bool
+    ensures { result ≡ begins_word byte }
 {
     byte.is_ascii_uppercase() || byte.is_ascii_lowercase() || byte == b'_'
 }
@@ -146,5 +146,5 @@ fn is_letter(byte: u8) -> bool
 fn continues(byte: u8) -> bool
     ensures { result ≡ continues byte }
 {
-    is_letter(byte) || byte.is_ascii_digit() || byte == b'$'
+    begins_word(byte) || byte.is_ascii_digit() || byte == b'$'
 }

@@ -2,6 +2,7 @@ pub mod Lookup
 pub mod Unfolding
 pub mod Root
 pub mod Domains
+pub mod Texts
 pub mod Sound
 pub mod Order
 pub mod Limits
