@@ -1,5 +1,5 @@
 ghost use Rattle.std.specs.Prelude.{◌≡◌, ◌==◌, ◌+◌, ◌≤◌, ◌<◌, ◌^◌, length, map, reverse, IfOk, Some, None, if◌then◌else◌, ◌&&◌};
-ghost use Rattle.std.specs.List.{list_all, slice_split};
+ghost use Rattle.std.specs.List.{list_all, count_by, slice_split};
 ghost use Rattle.emh_shell.specs.declared.command.Command.TheVariants.{Load};
 ghost use Rattle.emh_shell.specs.Script.{is_name, begins_word, is_identifier, lines_of, words_of, report_of, load_of, command_of, commands_of, continues, script_of, IsScriptAnswer};
 ghost use Rattle.emh_shell.specs.Texts.{texts};
@@ -15,11 +15,33 @@ pub fn read_script(alloc: Global, bytes: &[u8]) -> Result<List<Command>, ScriptF
     ensures answer { IsScriptAnswer (script_of bytes.now) result }
     ensures few { IfOk result (λ commands. length commands ≤ 1000000) }
 {
-    let lines = read_lines(alloc, bytes)?;
-    if lines.len() > LINE_LIMIT {
+    if line_count(bytes) > LINE_LIMIT {
         return Err(ScriptFault::TooManyLines);
     }
+    let lines = read_lines(alloc, bytes)?;
     read_commands(alloc, lines.as_slice())
+}
+
+/// The number of lines, counted before memory is taken for them.
+fn line_count(bytes: &[u8]) -> usize
+    ensures { result ≡ length (lines_of bytes.now) }
+{
+    match bytes.split_last() {
+        None => 0,
+        Some((last, text)) => {
+            if *last == b'\n' {
+                return newlines(text) + 1;
+            }
+            newlines(bytes) + 1
+        }
+    }
+}
+
+fn newlines(bytes: &[u8]) -> usize
+    ensures value { result ≡ count_by (λ byte. byte == 10) bytes.now }
+    ensures few { result ≤ length bytes.now }
+{
+    bytes.iter().filter(|byte| **byte == b'\n').count()
 }
 
 fn pieces(alloc: Global, bytes: &[u8], mark: u8) -> Result<Vec<&[u8]>, AllocError>
