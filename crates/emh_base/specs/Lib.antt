@@ -1,4 +1,6 @@
+pub mod Laws
 pub mod Name
 pub mod Pool
+pub mod Spelling
 pub mod Text
 pub mod TwoLevel

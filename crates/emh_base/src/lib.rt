@@ -2,6 +2,7 @@
 #![tactic(auto)]
 
 mod ids;
+mod laws;
 mod list;
 mod memory;
 mod name;
@@ -9,10 +10,12 @@ mod path;
 mod placement;
 mod plain;
 mod pool;
+mod spelling;
 mod text;
 mod try_copy;
 
 pub use ids::{BlockKey, InstId, ModId, NetId, OccKey};
+pub use laws::each_spelled_once;
 pub use list::List;
 pub use memory::NoMemory;
 pub use name::{NAME_LIMIT, Name, NameFault};
@@ -20,6 +23,7 @@ pub use path::Path;
 pub use placement::{Orient, Placement, Status};
 pub use plain::{Conn, Dir, PInst, PModule, PNet, PPort, Plain, Range, Src};
 pub use pool::Pool;
+pub use spelling::{SpellFault, unspell};
 pub use text::{push_index, push_number, push_spelled};
 pub use try_copy::TryCopy;
 

@@ -1,6 +1,6 @@
 use super::{
     Conn, Dir, InstId, List, ModId, Name, NameFault, NetId, PInst, PModule, PNet, PPort, Path,
-    Plain, Pool, Range, Src, TryCopy, push_index, push_spelled,
+    Plain, Pool, Range, SpellFault, Src, TryCopy, push_index, push_spelled, unspell,
 };
 use std::alloc::Global;
 use std::test::Fail;
@@ -77,6 +77,44 @@ fn texts_mark_what_would_be_read_otherwise(rt: HostRuntime) -> Result<(), Fail> 
         let mut out = List::new(rt.alloc());
         push_index(&mut out, range, offset)?;
         assert_eq!(rt; out.as_slice(), text);
+    }
+    Ok(())
+}
+
+#[test]
+fn a_word_spells_one_name_or_none(rt: HostRuntime) -> Result<(), Fail> {
+    let spelled: [(&[u8], &[u8]); 8] = [
+        (b"u1", b"u1"),
+        (b"bus\\[3\\]", b"bus[3]"),
+        (b"\\=a=b", b"=a=b"),
+        (b"a=", b"a="),
+        (b"x\\.y\\/z", b"x.y/z"),
+        (b"\\\\", b"\\"),
+        (&[b'~'; 1024], &[b'~'; 1024]),
+        (b"\\\\\\.", b"\\."),
+    ];
+    for (word, name) in spelled {
+        assert_eq!(rt; unspell(rt.alloc(), word)?.as_bytes(), name);
+    }
+    let words: [&[u8]; 12] = [
+        b"",
+        b"=",
+        b"a/b",
+        b"n[3]",
+        b"x]",
+        b"u.A",
+        b"\\",
+        b"a\\",
+        b"\\a",
+        b"a\\=",
+        b"a b",
+        &[b'!'; 1025],
+    ];
+    for word in words {
+        match unspell(rt.alloc(), word) {
+            Ok(_) => assert!(rt; false, "{word:?} spells a name"),
+            Err(fault) => assert_eq!(rt; fault, SpellFault::NotSpelled),
+        }
     }
     Ok(())
 }
