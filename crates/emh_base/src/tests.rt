@@ -1,6 +1,7 @@
 use super::{
-    Conn, Dir, InstId, List, ModId, Name, NameFault, NetId, PInst, PModule, PNet, PPort, Path,
-    Plain, Pool, Range, SpellFault, Src, TryCopy, push_index, push_spelled, unspell,
+    Conn, Dir, InstId, List, ModId, Name, NameFault, NetId, Orient, PInst, PModule, PNet, PPort,
+    Path, Placement, Places, Plain, Pool, Range, SpellFault, Src, Status, TryCopy, push_index,
+    push_spelled, unspell,
 };
 use std::alloc::Global;
 use std::test::Fail;
@@ -116,6 +117,49 @@ fn a_word_spells_one_name_or_none(rt: HostRuntime) -> Result<(), Fail> {
             Err(fault) => assert_eq!(rt; fault, SpellFault::NotSpelled),
         }
     }
+    Ok(())
+}
+
+fn path_of(alloc: Global, steps: &[u32]) -> Result<Path, Fail> {
+    let mut path = Path::new(alloc);
+    for step in steps {
+        path.push(InstId(*step))?;
+    }
+    Ok(path)
+}
+
+fn at(x: i32) -> Placement {
+    Placement {
+        x,
+        y: -x,
+        orient: Orient::MXR90,
+        status: Status::Fixed,
+    }
+}
+
+#[test]
+fn places_hold_one_placement_a_path(rt: HostRuntime) -> Result<(), Fail> {
+    let alloc = rt.alloc();
+    let mut places = Places::new(alloc);
+    assert!(rt; places.is_empty());
+    let cases: [(&[u32], i32); 5] = [(&[2], 1), (&[1, 9], 2), (&[1], 3), (&[10], 4), (&[2], 5)];
+    for (steps, x) in cases {
+        places.set(path_of(alloc, steps)?, at(x))?;
+        assert_eq!(rt; places.get(&path_of(alloc, steps)?), Some(at(x)));
+    }
+    assert_eq!(rt; places.len(), 4);
+    assert_eq!(rt; places.get(&path_of(alloc, &[9])?), None);
+    places.remove(&path_of(alloc, &[1])?);
+    places.remove(&path_of(alloc, &[])?);
+    let rising: [(&[u32], i32); 3] = [(&[1, 9], 2), (&[2], 5), (&[10], 4)];
+    let list = places.copy()?.to_list()?;
+    assert_eq!(rt; list.len(), 3);
+    for (place, (steps, x)) in rising.iter().enumerate() {
+        let (path, placement) = list.get(place).ok_or("too few")?;
+        assert!(rt; *path == path_of(alloc, steps)?);
+        assert_eq!(rt; *placement, at(*x));
+    }
+    assert!(rt; path_of(alloc, &[1])? < path_of(alloc, &[1, 0])?);
     Ok(())
 }
 
