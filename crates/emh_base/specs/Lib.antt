@@ -3,6 +3,7 @@ pub mod Name
 pub mod Path
 pub mod Places
 pub mod Pool
+pub mod Rule
 pub mod Spelling
 pub mod Text
 pub mod TwoLevel

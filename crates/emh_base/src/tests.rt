@@ -1,7 +1,7 @@
 use super::{
-    Conn, Dir, InstId, List, ModId, Name, NameFault, NetId, Orient, PInst, PModule, PNet, PPort,
-    Path, Placement, Places, Plain, Pool, Range, SpellFault, Src, Status, TryCopy, push_index,
-    push_spelled, unspell,
+    By, Change, Conn, Dir, Edit, Fanout, InstId, Kind, List, ModId, Name, NameFault, NetId, Orient,
+    PInst, PModule, PNet, PPort, Path, Placement, Places, Plain, Pool, Range, Settings, SpellFault,
+    Src, State, Status, TryCopy, push_index, push_spelled, unspell,
 };
 use std::alloc::Global;
 use std::test::Fail;
@@ -232,5 +232,98 @@ fn a_copy_of_a_table_has_all_that_the_table_has(rt: HostRuntime) -> Result<(), F
         path.push(InstId(step))?;
     }
     assert_eq!(rt; path.copy()?.steps(), path.steps());
+    Ok(())
+}
+
+fn change_of(alloc: Global, edit: Edit) -> Result<Change, Fail> {
+    let mut was = List::new(alloc);
+    was.push(Conn::Open)?;
+    Ok(Change {
+        edit,
+        by: By::Watch(3),
+        was,
+        made: Some(8),
+    })
+}
+
+#[test]
+fn a_copy_of_a_change_has_all_that_the_change_has(rt: HostRuntime) -> Result<(), Fail> {
+    let alloc = rt.alloc();
+    let mut bits = List::new(alloc);
+    bits.push(Src::Bit(NetId(6), 7))?;
+    let change = change_of(
+        alloc,
+        Edit::Connect {
+            module: ModId(1),
+            inst: InstId(2),
+            port: NetId(4),
+            bits,
+        },
+    )?;
+    let copy = change.copy()?;
+    assert_eq!(rt;
+        (copy.by, copy.made, copy.was.len()),
+        (By::Watch(3), Some(8), 1)
+    );
+    match copy.edit {
+        Edit::Connect {
+            module,
+            inst,
+            port,
+            bits,
+        } => {
+            assert_eq!(rt; (module, inst, port), (ModId(1), InstId(2), NetId(4)));
+            assert_eq!(rt; bits.get(0), Some(&Src::Bit(NetId(6), 7)));
+        }
+        _ => assert!(rt; false, "it was a connect"),
+    }
+    let place = Edit::Place {
+        path: path_of(alloc, &[4, 1])?,
+        placement: at(9),
+    };
+    match place.copy()? {
+        Edit::Place { path, placement } => {
+            assert!(rt; path == path_of(alloc, &[4, 1])?);
+            assert_eq!(rt; placement, at(9));
+        }
+        _ => assert!(rt; false, "it was a place"),
+    }
+    Ok(())
+}
+
+#[test]
+fn a_copy_of_a_state_has_all_that_the_state_has(rt: HostRuntime) -> Result<(), Fail> {
+    let alloc = rt.alloc();
+    let mut places = Places::new(alloc);
+    places.set(path_of(alloc, &[4])?, at(6))?;
+    let settings = Settings {
+        fanout: Some(Fanout {
+            max: 12,
+            cell: ModId(5),
+        }),
+        grid: None,
+    };
+    let state = State {
+        plain: one_instance(alloc)?,
+        top: ModId(3),
+        places,
+        settings,
+    };
+    let copy = state.copy()?;
+    assert_eq!(rt; (copy.top, copy.settings), (ModId(3), settings));
+    assert_eq!(rt; copy.plain.modules.len(), 1);
+    assert_eq!(rt; copy.places.get(&path_of(alloc, &[4])?), Some(at(6)));
+    let kind = Kind::Net {
+        path: List::new(alloc),
+        net: Name::new(alloc, b"w")?,
+        index: Some(2),
+    };
+    match kind.copy()? {
+        Kind::Net { path, net, index } => {
+            assert_eq!(rt; (path.len(), index), (0, Some(2)));
+            assert_eq!(rt; net.as_bytes(), b"w".as_slice());
+        }
+        _ => assert!(rt; false, "it was a net"),
+    }
     Ok(())
 }
