@@ -5,7 +5,7 @@ use Rattle.emh_base.specs.Text.{is_special, marked, spelled, spelled_first, spel
 use Rattle.emh_base.specs.Name.{IsName}
 use Rattle.emh_base.specs.declared.spelling.SpellFault.{SpellFault}
 use Rattle.emh_base.specs.declared.spelling.SpellFault.TheVariants.{NotSpelled, NoMemory}
-use Rattle.emh_base.specs.Spelling.{needs_mark, fits_mark, read_back}
+use Rattle.emh_base.specs.Spelling.{needs_mark, read_back}
 
 -- a byte that ends a spelled name: / [ .
 abbrev pub ends_name : ℕ → Bool

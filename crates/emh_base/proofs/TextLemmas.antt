@@ -1,14 +1,14 @@
 -- Each text of a path, a net bit, a pin or a tie is the text of one of them only, but that a path and a bit without an
 -- index may share one: then the path's last name is the net's.
-use Rattle.std.proofs.Common.{◌≡◌, refl, sym, ◌∙◌, ap, ap₂, subst, ℕ, ◌+◌, ◌-◌, ◌<◌, ◌≤◌, ◌^◌, ◌==◌, Bool, true, false, ◌||◌, List, [], ◌∷◌, ◌++◌, map, length, get_or, drop, flat_map, Option, Some, None, IsTrue, arith, append_assoc, append-nil, codes}
+use Rattle.std.proofs.Common.{◌≡◌, refl, sym, ◌∙◌, ap, ap₂, subst, ℕ, ◌+◌, ◌-◌, ◌<◌, ◌^◌, ◌==◌, true, false, ◌||◌, List, [], ◌∷◌, ◌++◌, length, get_or, drop, Option, Some, None, IsTrue, arith, append_assoc, append-nil}
 use Rattle.std.specs.Fmt.{decimal}
-use Rattle.std.specs.List.{join_with_byte, AllByRecursion}
+use Rattle.std.specs.List.{AllByRecursion}
 use Rattle.std.proofs.lemmas.Bool.{both_ways}
 use Rattle.std.proofs.lemmas.List.{append_cancel_right}
 use Rattle.std.proofs.lemmas.Fmt.{decimal_injective}
 use Rattle.emh_base.specs.declared.plain.Range.{Range}
 use Rattle.emh_base.specs.Name.{IsName}
-use Rattle.emh_base.specs.Text.{is_special, marked, spelled, spelled_first, spell, path_text, front_text, bit_text, pin_text, index_of, index_text}
+use Rattle.emh_base.specs.Text.{is_special, spell, path_text, front_text, bit_text, pin_text, index_of, index_text}
 use Rattle.emh_base.proofs.SpellLemmas.{Stops, cancel, no_first, nothing_begins}
 
 abbrev pub AreNames : List (List ℕ) → Type 0

@@ -131,7 +131,7 @@ fn path_of(alloc: Global, steps: &[u32]) -> Result<Path, Fail> {
 fn at(x: i32) -> Placement {
     Placement {
         x,
-        y: -x,
+        y: -7,
         orient: Orient::MXR90,
         status: Status::Fixed,
     }
@@ -235,95 +235,73 @@ fn a_copy_of_a_table_has_all_that_the_table_has(rt: HostRuntime) -> Result<(), F
     Ok(())
 }
 
-fn change_of(alloc: Global, edit: Edit) -> Result<Change, Fail> {
-    let mut was = List::new(alloc);
-    was.push(Conn::Open)?;
-    Ok(Change {
-        edit,
-        by: By::Watch(3),
-        was,
-        made: Some(8),
+fn connect(alloc: Global) -> Result<Edit, Fail> {
+    let mut bits = List::new(alloc);
+    bits.push(Src::Bit(NetId(6), 7))?;
+    Ok(Edit::Connect {
+        module: ModId(1),
+        inst: InstId(2),
+        port: NetId(4),
+        bits,
     })
 }
 
 #[test]
 fn a_copy_of_a_change_has_all_that_the_change_has(rt: HostRuntime) -> Result<(), Fail> {
-    let alloc = rt.alloc();
-    let mut bits = List::new(alloc);
-    bits.push(Src::Bit(NetId(6), 7))?;
-    let change = change_of(
-        alloc,
-        Edit::Connect {
-            module: ModId(1),
-            inst: InstId(2),
-            port: NetId(4),
-            bits,
-        },
-    )?;
+    let mut was = List::new(rt.alloc());
+    was.push(Conn::Open)?;
+    let change = Change {
+        edit: connect(rt.alloc())?,
+        by: By::Watch(3),
+        was,
+        made: Some(8),
+    };
     let copy = change.copy()?;
     assert_eq!(rt;
         (copy.by, copy.made, copy.was.len()),
         (By::Watch(3), Some(8), 1)
     );
-    match copy.edit {
-        Edit::Connect {
-            module,
-            inst,
-            port,
-            bits,
-        } => {
-            assert_eq!(rt; (module, inst, port), (ModId(1), InstId(2), NetId(4)));
+    match &copy.edit {
+        Edit::Connect { port, bits, .. } => {
+            assert_eq!(rt; *port, NetId(4));
             assert_eq!(rt; bits.get(0), Some(&Src::Bit(NetId(6), 7)));
         }
         _ => assert!(rt; false, "it was a connect"),
     }
-    let place = Edit::Place {
-        path: path_of(alloc, &[4, 1])?,
-        placement: at(9),
+    Ok(())
+}
+
+const SETTINGS: Settings = Settings {
+    fanout: Some(Fanout {
+        max: 12,
+        cell: ModId(5),
+    }),
+    grid: None,
+};
+
+#[test]
+fn a_copy_of_a_state_has_all_that_the_state_has(rt: HostRuntime) -> Result<(), Fail> {
+    let mut places = Places::new(rt.alloc());
+    places.set(path_of(rt.alloc(), &[4])?, at(6))?;
+    let state = State {
+        plain: one_instance(rt.alloc())?,
+        top: ModId(3),
+        places,
+        settings: SETTINGS,
     };
-    match place.copy()? {
-        Edit::Place { path, placement } => {
-            assert!(rt; path == path_of(alloc, &[4, 1])?);
-            assert_eq!(rt; placement, at(9));
-        }
-        _ => assert!(rt; false, "it was a place"),
-    }
+    let copy = state.copy()?;
+    assert_eq!(rt; (copy.top, copy.settings), (ModId(3), SETTINGS));
+    assert_eq!(rt; copy.plain.modules.len(), 1);
+    assert_eq!(rt; copy.places.get(&path_of(rt.alloc(), &[4])?), Some(at(6)));
     Ok(())
 }
 
 #[test]
-fn a_copy_of_a_state_has_all_that_the_state_has(rt: HostRuntime) -> Result<(), Fail> {
-    let alloc = rt.alloc();
-    let mut places = Places::new(alloc);
-    places.set(path_of(alloc, &[4])?, at(6))?;
-    let settings = Settings {
-        fanout: Some(Fanout {
-            max: 12,
-            cell: ModId(5),
-        }),
-        grid: None,
-    };
-    let state = State {
-        plain: one_instance(alloc)?,
-        top: ModId(3),
-        places,
-        settings,
-    };
-    let copy = state.copy()?;
-    assert_eq!(rt; (copy.top, copy.settings), (ModId(3), settings));
-    assert_eq!(rt; copy.plain.modules.len(), 1);
-    assert_eq!(rt; copy.places.get(&path_of(alloc, &[4])?), Some(at(6)));
-    let kind = Kind::Net {
-        path: List::new(alloc),
-        net: Name::new(alloc, b"w")?,
-        index: Some(2),
-    };
-    match kind.copy()? {
-        Kind::Net { path, net, index } => {
-            assert_eq!(rt; (path.len(), index), (0, Some(2)));
-            assert_eq!(rt; net.as_bytes(), b"w".as_slice());
-        }
-        _ => assert!(rt; false, "it was a net"),
+fn a_copy_of_a_kind_asks_for_the_same(rt: HostRuntime) -> Result<(), Fail> {
+    let kind = Kind::Where(Name::new(rt.alloc(), b"w")?);
+    match &kind.copy()? {
+        Kind::Where(name) => assert_eq!(rt; name.as_bytes(), b"w".as_slice()),
+        _ => assert!(rt; false, "it was a module's places"),
     }
     Ok(())
 }

@@ -1,4 +1,4 @@
-use Rattle.std.proofs.Common.{Err, subst}
+use Rattle.std.proofs.Common.{subst}
 use Rattle.emh_base.proofs.NameLemmas.{Refuses, refused_for_memory}
 use Rattle.emh_base.proofs.spelling.name_of.Goals as goal
 

@@ -1,4 +1,4 @@
-use Rattle.std.proofs.Common.{◌∙◌, ap, sym, eqb→eq, eq-eqb, rules, arith}
+use Rattle.std.proofs.Common.{◌∙◌, ap, sym, rules}
 use Rattle.std.specs.FinMap as map
 use Rattle.emh_base.specs.Path.{path_cmp}
 use Rattle.emh_base.specs.declared.placement.Placement.{Placement}
