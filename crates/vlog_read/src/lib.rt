@@ -1,0 +1,8 @@
+//! The grammar of a netlist: from tokens to a tree of modules, or to the first token that no sentence has there.
+#![tactic(auto)]
+
+mod fault;
+mod tree;
+
+pub use fault::ParseFault;
+pub use tree::{At, Decl, Header, Item, Part, Span, TConn, TInst, TModule, Tree};
