@@ -1,5 +1,5 @@
 -- Names, declarations and headers.
-use Rattle.std.proofs.Common.{◌≡◌, refl, sym, ◌∙◌, ap, ℕ, Bool, true, false, List, [], ◌∷◌, ◌++◌, Option, Some, None, append_assoc, append-nil, inl, inr}
+use Rattle.std.proofs.Common.{◌≡◌, refl, ◌∙◌, ap, ℕ, Bool, true, false, List, [], ◌∷◌, ◌++◌, Option, Some, None, append_assoc, append-nil, inl, inr}
 use Rattle.emh_base.specs.declared.plain.Dir.{Dir}
 use Rattle.emh_base.specs.declared.plain.Dir.TheVariants.{Input, Output, Inout}
 use Rattle.vlog_lex.specs.declared.token.Token.{Token}
@@ -11,8 +11,8 @@ use Rattle.vlog_read.specs.declared.tree.Header.TheVariants.{Names, Decls}
 use Rattle.vlog_read.specs.declared.tree.Decl.{Decl}
 use Rattle.vlog_read.specs.declared.tree.Item.TheVariants.{Decl as Declaration}
 use Rattle.vlog_read.specs.Words.{right_parenthesis, semicolon}
-use Rattle.vlog_read.specs.Grammar.{One, name, names, more_names, range, maybe_range, direction, maybe_wire, declares, decl, port_decl, more_port_decls, header, ports}
-use Rattle.vlog_read.specs.Machine.State.{SoFar, InModule, DeclFor, ForHeader, ForItem, module_of, with_item, decl_of, with_name, AfterModuleName, FirstHeader, HeaderName, AfterHeaderName, HeaderDecl, AfterPorts, AfterDir, AfterWire, DeclName, AfterDeclName, InItems}
+use Rattle.vlog_read.specs.Grammar.{One, name, names, more_names, maybe_range, direction, maybe_wire, decl, port_decl, more_port_decls, header, ports}
+use Rattle.vlog_read.specs.Machine.State.{SoFar, InModule, DeclFor, ForHeader, ForItem, module_of, with_item, decl_of, with_name, AfterModuleName, FirstHeader, AfterHeaderName, HeaderDecl, AfterPorts, AfterDir, AfterWire, AfterDeclName, InItems}
 use Rattle.vlog_read.specs.Machine.Step.{read}
 
 -- a declaration with more names

@@ -10,8 +10,8 @@ use Rattle.vlog_read.specs.declared.tree.TInst.{TInst}
 use Rattle.vlog_read.specs.declared.tree.Item.TheVariants.{Insts}
 use Rattle.vlog_read.specs.declared.tree.Part.{Part}
 use Rattle.vlog_read.specs.declared.tree.Part.TheVariants.{Name, Bit, Bits, Lit}
-use Rattle.vlog_read.specs.Words.{comma, dot, left_parenthesis, right_parenthesis, semicolon, left_bracket, left_brace, right_brace}
-use Rattle.vlog_read.specs.Grammar.{One, OneAt, NextAt, name, part, Expr, MoreExprs, alone, joined, no_more, one_more, maybe_expr, filled, by_order, by_name, conn_of, conn, lone_conn_of, lone_conn, more_conns, conns, inst, more_insts, insts, first_at}
+use Rattle.vlog_read.specs.Words.{comma, dot, right_parenthesis, semicolon, left_bracket, left_brace, right_brace}
+use Rattle.vlog_read.specs.Grammar.{One, name, part, Expr, MoreExprs, alone, joined, no_more, one_more, by_order, by_name, conn, lone_conn, more_conns, conns, inst, more_insts, insts, first_at}
 use Rattle.vlog_read.specs.Machine.State as state
 use Rattle.vlog_read.specs.Machine.State.{InModule, InInsts, InInst, InConn, with_item, insts_of, inst_of, with_conn, with_inst, with_insts, empty_conn, expr_of, with_part, with_expr, InItems, InstName, AfterInstName, FirstConn, NextConn, PortName, AfterPortName, FirstExpr, NextExpr, AfterPartName, AfterExpr, AfterConn, AfterInst}
 use Rattle.vlog_read.specs.Machine.Step.{is_mark, ends_conn, read}

@@ -1,5 +1,5 @@
 -- Items, modules and the whole.
-use Rattle.std.proofs.Common.{◌≡◌, refl, sym, ◌∙◌, ap, ℕ, Bool, true, false, List, [], ◌∷◌, ◌++◌, append_assoc, append-nil}
+use Rattle.std.proofs.Common.{◌≡◌, refl, sym, ◌∙◌, ap, ℕ, Bool, List, [], ◌∷◌, ◌++◌, append_assoc, append-nil}
 use Rattle.std.specs.Prelude.{Ok}
 use Rattle.vlog_lex.specs.declared.token.Token.{Token}
 use Rattle.vlog_read.specs.declared.tree.Tree.{Tree}
@@ -8,7 +8,7 @@ use Rattle.vlog_read.specs.declared.tree.Item.{Item}
 use Rattle.vlog_read.specs.declared.tree.Item.TheVariants.{Decl as Declaration, Insts}
 use Rattle.vlog_read.specs.Grammar.{item, items, one_module, Source, the_end, cell, end_cell, next_module}
 use Rattle.vlog_read.specs.Sentence.{Spells}
-use Rattle.vlog_read.specs.Machine.State.{State, SoFar, InModule, module_of, with_item, finished, Top, InItems}
+use Rattle.vlog_read.specs.Machine.State.{State, SoFar, InModule, module_of, with_item, Top, InItems}
 use Rattle.vlog_read.specs.Machine.Step.{read, start}
 use Rattle.vlog_read.proofs.Spelled.Decls.{decl_item, ports_read}
 use Rattle.vlog_read.proofs.Spelled.Exprs.{insts_item}
@@ -23,8 +23,11 @@ abbrev pub with_items : InModule → List Item → InModule
 with_items m is = record {
   modules = m.modules;
   current = record {
-    name = m.current.name; marked = m.current.marked; header = m.current.header; items = m.current.items ++ is
-  }
+    name = m.current.name;
+    marked = m.current.marked;
+    header = m.current.header;
+    items = m.current.items ++ is;
+  };
 }
 
 items_read : (len : ℕ) (m : InModule) (is : List Item) (T U : List Token) → items is T U
