@@ -1,3 +1,4 @@
 pub mod Words
 pub mod Passing
 pub mod Spelled
+pub mod Left

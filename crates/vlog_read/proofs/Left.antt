@@ -1,0 +1,4 @@
+-- What is left completes: for each state, the tokens that make a sentence of what was read so far.
+pub mod Ends
+pub mod Tokens
+pub mod Decls
