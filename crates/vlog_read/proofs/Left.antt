@@ -2,3 +2,4 @@
 pub mod Ends
 pub mod Tokens
 pub mod Decls
+pub mod Exprs

@@ -170,7 +170,7 @@ lone_begins at None expr_at ps T U (same, (V, (first, a), is)) =
     rw a (expr_begins (is_mark right_parenthesis) (λ _. refl) (λ _ _. refl) refl is)
 lone_begins at (Some port) expr_at ps T U (V, (_, a), rest) = rw a refl
 
-lone_is_conn : (at : ℕ) (port : Option At) (expr_at : ℕ) (ps : List Part) (T U : List Token)
+pub lone_is_conn : (at : ℕ) (port : Option At) (expr_at : ℕ) (ps : List Part) (T U : List Token)
     → lone_conn (state.conn_of at port expr_at ps) T U → conn (state.conn_of at port expr_at ps) T U
 lone_is_conn at None expr_at [] T U (same, (V, b, is)) = absurd (not_empty is refl)
 lone_is_conn at None expr_at (p ∷ ps) T U is = is
