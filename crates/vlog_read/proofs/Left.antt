@@ -3,3 +3,4 @@ pub mod Ends
 pub mod Tokens
 pub mod Decls
 pub mod Exprs
+pub mod Modules
