@@ -4,3 +4,4 @@ pub mod Tokens
 pub mod Decls
 pub mod Exprs
 pub mod Modules
+pub mod Completions

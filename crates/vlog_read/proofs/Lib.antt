@@ -2,3 +2,5 @@ pub mod Words
 pub mod Passing
 pub mod Spelled
 pub mod Left
+pub mod Sentences
+pub mod OneAnswer

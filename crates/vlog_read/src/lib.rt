@@ -2,7 +2,9 @@
 #![tactic(auto)]
 
 mod fault;
+mod law;
 mod tree;
 
 pub use fault::ParseFault;
+pub use law::one_sentence;
 pub use tree::{At, Decl, Header, Item, Part, Span, TConn, TInst, TModule, Tree};
