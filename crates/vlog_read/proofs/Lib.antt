@@ -4,3 +4,4 @@ pub mod Spelled
 pub mod Left
 pub mod Sentences
 pub mod OneAnswer
+pub mod Worked
