@@ -115,7 +115,8 @@ decls = read_spelled 0 _ _ refl
 
 -- a b ( ) , a ( , ) ;
 empty : Spells
-    (tree_within (Insts (a_at 3) (inst_of (b_at 4) [] ∷ inst_of (a_at 8) (empty_conn 10 ∷ empty_conn 11 ∷ []) ∷ []) ∷ []))
+    (tree_within (Insts (a_at 3)
+    (inst_of (b_at 4) [] ∷ inst_of (a_at 8) (empty_conn 10 ∷ empty_conn 11 ∷ []) ∷ []) ∷ []))
     (within (a ∷ b ∷ l ∷ r ∷ c ∷ a ∷ l ∷ c ∷ r ∷ s ∷ []))
 empty = read_spelled 0 _ _ refl
 
