@@ -1,0 +1,23 @@
+use emh_base::Name;
+
+/// Why tokens are no sentence of the grammar; `at` is the place of the first token that no sentence has there, counted
+/// from 0.
+#[derive(Debug, Drop)]
+pub enum ParseFault {
+    /// A token that may not stand here, or the end of the file, whose place is the number of its bytes.
+    Unexpected { at: u32 },
+    /// A token of a part of the language that isn't read; `word` is its text.
+    Unsupported { at: u32, word: Name },
+    NoMemory,
+}
+
+impl From<emh_base::NoMemory> for ParseFault {
+    ghost use Rattle.std.specs.Prelude.{◌≡◌};
+    ghost use Rattle.vlog_read.specs.declared.fault.ParseFault.TheVariants.{NoMemory as no_memory};
+
+    ghost from_gives = { λ _ fault. fault ≡ no_memory };
+
+    fn from(_: emh_base::NoMemory) -> ParseFault {
+        ParseFault::NoMemory
+    }
+}

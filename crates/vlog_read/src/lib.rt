@@ -1,0 +1,10 @@
+//! The grammar of a netlist: from tokens to a tree of modules, or to the first token that no sentence has there.
+#![tactic(auto)]
+
+mod fault;
+mod law;
+mod tree;
+
+pub use fault::ParseFault;
+pub use law::one_sentence;
+pub use tree::{At, Decl, Header, Item, Part, Span, TConn, TInst, TModule, Tree};
