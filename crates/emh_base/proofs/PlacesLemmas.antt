@@ -53,14 +53,16 @@ module _ {K X : Type 0} (R : K → K → Ordering) (o : IsTotalOrder R) (same : 
       → ((q : K) → lookup (λ x. is_eq (R q x)) made ≡ cond (is_eq (R k q)) w (lookup (λ x. is_eq (R q x)) es))
       → (q : K) → get (from_entries {R = R} made) q ≡ cond (eq_by_cmp R q k) w (get (from_entries {R = R} es) q)
   updated es made k w updates q =
-      sym (get_seen made q) ∙ updates q ∙ ap (λ b. cond b w (lookup (λ x. is_eq (R q x)) es)) ((eq_by_cmp_equiv o).symm k q)
+      sym (get_seen made q) ∙ updates q
+      ∙ ap (λ b. cond b w (lookup (λ x. is_eq (R q x)) es)) ((eq_by_cmp_equiv o).symm k q)
       ∙ ap (cond (eq_by_cmp R q k) w) (get_seen es q)
 
   pub inserted : (es made : List (K × X)) (k : K) (v : X)
       → ((q : K) → lookup (λ x. is_eq (R q x)) made ≡ cond (is_eq (R k q)) (Some v) (lookup (λ x. is_eq (R q x)) es))
       → from_entries {R = R} made ≡ insert (from_entries {R = R} es) k v
   inserted es made k v updates =
-      same_map o same _ _ (λ q. updated es made k (Some v) updates q ∙ sym (get-insert o (from_entries {R = R} es) k v q))
+      same_map o same _ _ (λ q.
+      updated es made k (Some v) updates q ∙ sym (get-insert o (from_entries {R = R} es) k v q))
 
   pub removed : (es made : List (K × X)) (k : K)
       → ((q : K) → lookup (λ x. is_eq (R q x)) made ≡ cond (is_eq (R k q)) None (lookup (λ x. is_eq (R q x)) es))
@@ -121,8 +123,10 @@ module _ {K X : Type 0} (R : K → K → Ordering) (o : IsTotalOrder R) (same : 
 
   above : (x : K) (es : List (K × X)) → T (below_all R x es) → AllByRecursion (λ y. R x y ≡ Less) (keys_of es)
   above x [] less = tt
-  above x (e ∷ es) less =
-      (less_is (R x e.0) (first (is_lt (R x e.0)) (below_all R x es) less), above x es (second (is_lt (R x e.0)) (below_all R x es) less))
+  above x (e ∷ es) less = (
+    less_is (R x e.0) (first (is_lt (R x e.0)) (below_all R x es) less),
+    above x es (second (is_lt (R x e.0)) (below_all R x es) less),
+  )
 
   rises_by : (es : List (K × X)) → T (is_sorted R es) → IsStrictlySortedBy R (keys_of es)
   unfolding IsStrictlySortedBy
@@ -138,7 +142,8 @@ module _ {K X : Type 0} (R : K → K → Ordering) (o : IsTotalOrder R) (same : 
   put_in_kept m keeps =
       let alike : (q x : K) → R q x ≡ Equal → keeps x ≡ keeps q = λ q x tied. ap keeps (sym (same q x tied)) in
       let es = filter (λ e. keeps e.0) (entries m) in
-      let rises : IsStrictlySortedBy R (keys_of es) = rises_by es (is_sorted-where_key R keeps (entries m) (entries_sorted m)) in
+      let rises : IsStrictlySortedBy R (keys_of es) =
+      rises_by es (is_sorted-where_key R keeps (entries m) (entries_sorted m)) in
       put_in [] es rises
       ∙ same_map o same (from_entries {R = R} es) (retain_keys m keeps) (λ q.
       get-from_entries o es q ∙ find-where_key R keeps q (alike q) (entries m)
