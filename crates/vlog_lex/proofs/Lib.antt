@@ -10,3 +10,4 @@ pub mod Pieces
 pub mod Readings
 pub mod OneAnswer
 pub mod Ranges
+pub mod Few

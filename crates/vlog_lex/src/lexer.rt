@@ -17,6 +17,7 @@ pub fn tokens(alloc: Global, bytes: &[u8]) -> Result<Tokens, LexFault>
     ensures tokens { IfOk result (λ read. Lexes bytes.now read.items) }
     ensures len { IfOk result (λ read. read.len ≡ length bytes.now) }
     ensures fault { IfErr result (UnlessNoMemory (HasFault bytes.now)) }
+    ensures few { IfOk result (λ read. length read.items ≤ length bytes.now) }
     ensures in_range { IfOk result (λ read. All (λ token. IsInRange token.kind) read.items) }
 
     // Bytes that have tokens give these, and bytes that have a fault give it, unless memory is wanting.

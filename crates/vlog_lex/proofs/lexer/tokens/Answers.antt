@@ -1,4 +1,5 @@
 use Rattle.vlog_lex.proofs.OneAnswer.{each_list, each_fault}
+use Rattle.vlog_lex.proofs.Few.{few}
 use Rattle.vlog_lex.proofs.Ranges.{in_range}
 use Rattle.vlog_lex.proofs.lexer.tokens.Goals as goal
 
@@ -10,3 +11,6 @@ returns-clause-each_fault c = each_fault c.args.bytes.now c.read.result c.read.e
 
 pub returns-clause-in_range : goal.returns-clause-in_range
 returns-clause-in_range c = in_range c.args.bytes.now c.read.result c.read.ensures.tokens
+
+pub returns-clause-few : goal.returns-clause-few
+returns-clause-few c = few c.args.bytes.now c.read.result c.read.ensures.tokens
