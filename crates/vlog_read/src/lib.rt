@@ -2,7 +2,10 @@
 #![tactic(auto)]
 
 mod fault;
+mod reader;
+mod refusal;
 mod tree;
+mod word;
 
 pub use fault::ParseFault;
 pub use tree::{At, Decl, Header, Item, Part, Span, TConn, TInst, TModule, Tree};
