@@ -1,6 +1,7 @@
 //! The grammar of a netlist: from tokens to a tree of modules, or to the first token that no sentence has there.
 #![tactic(auto)]
 
+mod conns;
 mod decls;
 mod exprs;
 mod fault;
