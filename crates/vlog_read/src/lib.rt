@@ -5,6 +5,7 @@ mod conns;
 mod decls;
 mod exprs;
 mod fault;
+mod items;
 mod reader;
 mod refusal;
 mod tree;
