@@ -5,6 +5,7 @@ mod conns;
 mod decls;
 mod exprs;
 mod fault;
+mod header;
 mod items;
 mod reader;
 mod refusal;
