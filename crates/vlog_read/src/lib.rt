@@ -7,6 +7,7 @@ mod exprs;
 mod fault;
 mod header;
 mod items;
+mod modules;
 mod reader;
 mod refusal;
 mod tree;

@@ -4,11 +4,14 @@ use Rattle.vlog_lex.specs.declared.token.Token.{Token}
 use Rattle.vlog_lex.specs.declared.token.TokenKind.{TokenKind}
 use Rattle.vlog_lex.specs.declared.token.TokenKind.TheVariants.{Cell, EndCell, Literal}
 use Rattle.vlog_read.specs.declared.tree.TModule.{TModule}
+use Rattle.vlog_read.specs.declared.tree.At.{At}
+use Rattle.vlog_read.specs.declared.tree.Header.{Header}
+use Rattle.vlog_read.specs.declared.tree.Item.{Item}
 use Rattle.vlog_read.specs.declared.tree.Part.{Part}
 use Rattle.vlog_read.specs.declared.tree.Part.TheVariants.{Lit}
 use Rattle.vlog_read.specs.declared.fault.ParseFault.{ParseFault}
 use Rattle.vlog_read.specs.Grammar.{Reading, Never, One}
-use Rattle.vlog_read.specs.Machine.State.{SoFar}
+use Rattle.vlog_read.specs.Machine.State.{SoFar, InModule}
 use Rattle.vlog_read.specs.Machine.Step.{is_cell, is_end_cell}
 use Rattle.vlog_read.specs.Machine.Reads.{is_real, Refused}
 
@@ -38,3 +41,8 @@ is_celldefine kind = is_cell kind || is_end_cell kind
 -- between modules, by the fields
 abbrev pub so_far : List TModule → Bool → SoFar
 so_far ms marked = record { modules = ms; marked = marked }
+
+-- in a module, by the fields
+abbrev pub inside : List TModule → Bool → At → Header → List Item → InModule
+inside ms marked n h is =
+    record { modules = ms; current = record { name = n; marked = marked; header = h; items = is } }
