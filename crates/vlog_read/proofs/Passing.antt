@@ -1,5 +1,5 @@
 -- Where a part of the grammar that may be missing is missing, one state is as good as another.
-use Rattle.std.proofs.Common.{◌≡◌, refl, ℕ, true, false, List, [], ◌∷◌, Some, None}
+use Rattle.std.proofs.Common.{◌≡◌, refl, ℕ, Bool, true, false, ◌||◌, List, [], ◌∷◌, Some, None}
 use Rattle.emh_base.specs.declared.plain.Dir.{Dir}
 use Rattle.vlog_lex.specs.declared.token.Token.{Token}
 use Rattle.vlog_read.specs.declared.tree.At.{At}
@@ -7,7 +7,7 @@ use Rattle.vlog_read.specs.declared.tree.Header.TheVariants.{Names}
 use Rattle.vlog_read.specs.declared.tree.Decl.{Decl}
 use Rattle.vlog_read.specs.declared.tree.Part.{Part}
 use Rattle.vlog_read.specs.declared.tree.Part.TheVariants.{Name}
-use Rattle.vlog_read.specs.Words.{wire_word, left_parenthesis, right_parenthesis, dot, left_bracket}
+use Rattle.vlog_read.specs.Words.{wire_word, left_parenthesis, right_parenthesis, comma, dot, left_bracket}
 use Rattle.vlog_read.specs.Grammar.{first_at}
 use Rattle.vlog_read.specs.Machine.State.{SoFar, DeclFor, InInst, InConn, module_of, decl_of, with_conn, empty_conn, expr_of, with_part, with_expr, AfterModuleName, AfterPorts, AfterDir, AfterWire, DeclName, FirstConn, NextConn, FirstExpr, NextExpr, AfterPartName, AfterExpr, AfterConn}
 use Rattle.vlog_read.specs.Machine.Step.{is_mark, is_word, ends_conn, read}
@@ -38,17 +38,33 @@ some_conn len i [] h = refl
 some_conn len i (t ∷ T) h = rw h refl
 
 -- an empty connection by order
+no_conn_at : (len : ℕ) (i : InInst) (t : Token) (T : List Token) (follows closes : Bool)
+    → is_mark comma t.kind ≡ follows → is_mark right_parenthesis t.kind ≡ closes → (follows || closes) ≡ true
+    → read len (NextConn i) (t ∷ T) ≡ read len (AfterConn (with_conn i (empty_conn t.at))) (t ∷ T)
+no_conn_at len i t T true closes follows closes_is h = rw follows refl
+no_conn_at len i t T false true follows closes h = rw (follows, closes) refl
+no_conn_at len i t T false false follows closes h = cc
+
 pub no_conn : (len : ℕ) (i : InInst) (T : List Token) → IsNext ends_conn T ≡ true
     → read len (NextConn i) T ≡ read len (AfterConn (with_conn i (empty_conn (first_at T)))) T
 no_conn len i [] h = refl
-no_conn len i (t ∷ T) h = rw h refl
+no_conn len i (t ∷ T) h = no_conn_at len i t T (is_mark comma t.kind) (is_mark right_parenthesis t.kind) refl refl h
 
 -- a connection by order that isn't empty
+some_conn_at : (len : ℕ) (i : InInst) (t : Token) (T : List Token) (follows closes : Bool)
+    → is_mark comma t.kind ≡ follows → is_mark right_parenthesis t.kind ≡ closes → (follows || closes) ≡ false
+    → is_mark dot t.kind ≡ false
+    → read len (NextConn i) (t ∷ T) ≡ read len (NextExpr (expr_of i t.at None t.at []) 0) (t ∷ T)
+some_conn_at len i t T true closes follows closes_is h g = cc
+some_conn_at len i t T false true follows closes h g = cc
+some_conn_at len i t T false false follows closes h g = rw (follows, closes, g) refl
+
 pub conn_by_order : (len : ℕ) (i : InInst) (T : List Token) → IsNext ends_conn T ≡ false
     → IsNext (is_mark dot) T ≡ false
     → read len (NextConn i) T ≡ read len (NextExpr (expr_of i (first_at T) None (first_at T) []) 0) T
 conn_by_order len i [] h g = refl
-conn_by_order len i (t ∷ T) h g = rw (h, g) refl
+conn_by_order len i (t ∷ T) h g =
+    some_conn_at len i t T (is_mark comma t.kind) (is_mark right_parenthesis t.kind) refl refl h g
 
 -- the end of one
 pub end_by_order : (len : ℕ) (i : InInst) (at expr_at : ℕ) (ps : List Part) (T : List Token)

@@ -1,4 +1,6 @@
 pub mod Words
 pub mod Grammar
 pub mod Sentence
+pub mod Law
+pub mod Found
 pub mod Machine

@@ -7,6 +7,7 @@ mod exprs;
 mod fault;
 mod header;
 mod items;
+mod law;
 mod modules;
 mod reader;
 mod refusal;
@@ -14,4 +15,5 @@ mod tree;
 mod word;
 
 pub use fault::ParseFault;
+pub use law::one_sentence;
 pub use tree::{At, Decl, Header, Item, Part, Span, TConn, TInst, TModule, Tree};

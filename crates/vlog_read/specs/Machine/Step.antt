@@ -73,131 +73,119 @@ literal_of _ = Lit 0 0
 abbrev pub dir_of : TokenKind → Dir
 dir_of kind = if is_word input_word kind then Input else (if is_word output_word kind then Output else Inout)
 
+-- the ways from a state: the first whose test the token passes is taken
+abbrev pub taken : List (Bool × State) → Option State
+taken [] = None
+taken ((test, n) ∷ ways) = if test then Some n else taken ways
+
 -- after a connection
-abbrev pub after_conn : InInst → Token → Option State
-after_conn i t =
-    if is_mark comma t.kind then Some (NextConn i)
-    else (if is_mark right_parenthesis t.kind then Some (AfterInst (with_inst i))
-    else None)
+abbrev pub after_conn : InInst → Token → List (Bool × State)
+after_conn i t = (is_mark comma t.kind, NextConn i) ∷ (is_mark right_parenthesis t.kind, AfterInst (with_inst i)) ∷ []
 
 -- at an expression
-abbrev pub next_expr : InConn → ℕ → Token → Option State
+abbrev pub next_expr : InConn → ℕ → Token → List (Bool × State)
 next_expr e depth t =
-    if is_name t.kind then Some (AfterPartName e depth (name_of t))
-    else (if is_literal t.kind then Some (AfterExpr (with_part e (literal_of t.kind)) depth)
-    else (if is_mark left_brace t.kind then Some (NextExpr e (depth + 1))
-    else None))
+    (is_name t.kind, AfterPartName e depth (name_of t))
+    ∷ (is_literal t.kind, AfterExpr (with_part e (literal_of t.kind)) depth)
+    ∷ (is_mark left_brace t.kind, NextExpr e (depth + 1)) ∷ []
 
 -- after an expression that isn't in braces: one of a connection by order ends the connection
-abbrev pub end_of_expr : Option At → InConn → Token → Option State
+abbrev pub end_of_expr : Option At → InConn → Token → List (Bool × State)
 end_of_expr None e t = after_conn (with_expr e) t
-end_of_expr (Some port) e t = if is_mark right_parenthesis t.kind then Some (AfterConn (with_expr e)) else None
+end_of_expr (Some port) e t = (is_mark right_parenthesis t.kind, AfterConn (with_expr e)) ∷ []
 
 -- after an expression
-abbrev pub after_expr : InConn → ℕ → Token → Option State
+abbrev pub after_expr : InConn → ℕ → Token → List (Bool × State)
 after_expr e depth t =
     if nat_lt 0 depth
-    then (if is_mark comma t.kind then Some (NextExpr e depth)
-    else (if is_mark right_brace t.kind then Some (AfterExpr e (depth - 1))
-    else None))
+    then (is_mark comma t.kind, NextExpr e depth) ∷ (is_mark right_brace t.kind, AfterExpr e (depth - 1)) ∷ []
     else end_of_expr e.port e t
 
--- at a connection
-abbrev pub next_conn : InInst → Token → Option State
-next_conn i t =
-    if ends_conn t.kind then after_conn (with_conn i (empty_conn t.at)) t
-    else (if is_mark dot t.kind then Some (PortName i t.at)
-    else next_expr (expr_of i t.at None t.at []) 0 t)
+-- at a connection that isn't empty
+abbrev pub some_conn : InInst → Token → List (Bool × State)
+some_conn i t = (is_mark dot t.kind, PortName i t.at) ∷ next_expr (expr_of i t.at None t.at []) 0 t
 
 -- after the name of a declaration
-abbrev pub after_decl_name : DeclFor → Decl → Token → Option State
+abbrev pub after_decl_name : DeclFor → Decl → Token → List (Bool × State)
 after_decl_name (ForHeader s n ds) d t =
-    if is_mark comma t.kind then Some (HeaderDecl s n ds d)
-    else (if is_mark right_parenthesis t.kind then Some (AfterPorts (module_of s n (Decls (ds ++ d ∷ []))))
-    else None)
+    (is_mark comma t.kind, HeaderDecl s n ds d)
+    ∷ (is_mark right_parenthesis t.kind, AfterPorts (module_of s n (Decls (ds ++ d ∷ [])))) ∷ []
 after_decl_name (ForItem m) d t =
-    if is_mark comma t.kind then Some (DeclName (ForItem m) d)
-    else (if is_mark semicolon t.kind then Some (InItems (with_item m (Declaration d)))
-    else None)
+    (is_mark comma t.kind, DeclName (ForItem m) d)
+    ∷ (is_mark semicolon t.kind, InItems (with_item m (Declaration d))) ∷ []
 
 -- at the name of a declaration
-abbrev pub decl_name : DeclFor → Decl → Token → Option State
-decl_name for d t = if is_name t.kind then Some (AfterDeclName for (with_name d (name_of t))) else None
+abbrev pub decl_name : DeclFor → Decl → Token → List (Bool × State)
+decl_name for d t = (is_name t.kind, AfterDeclName for (with_name d (name_of t))) ∷ []
 
 -- at the range of a declaration
-abbrev pub maybe_range : DeclFor → Decl → Token → Option State
-maybe_range for d t = if is_mark left_bracket t.kind then Some (RangeLeft for d) else decl_name for d t
+abbrev pub maybe_range : DeclFor → Decl → Token → List (Bool × State)
+maybe_range for d t = (is_mark left_bracket t.kind, RangeLeft for d) ∷ decl_name for d t
 
--- one step, where the token may stand in the state
-abbrev pub step : State → Token → Option State
-step (Top s) t =
-    if is_cell t.kind then Some (Top (with_mark s true))
-    else (if is_end_cell t.kind then Some (Top (with_mark s false))
-    else (if is_word module_word t.kind then Some (ModuleName s)
-    else None))
-step (ModuleName s) t = if is_name t.kind then Some (AfterModuleName s (name_of t)) else None
-step (AfterModuleName s n) t =
-    if is_mark left_parenthesis t.kind then Some (FirstHeader s n)
-    else (if is_mark semicolon t.kind then Some (InItems (module_of s n (Names [])))
-    else None)
-step (FirstHeader s n) t =
-    if is_name t.kind then Some (AfterHeaderName s n (name_of t ∷ []))
-    else (if is_dir t.kind then Some (AfterDir (ForHeader s n []) (dir_of t.kind))
-    else (if is_mark right_parenthesis t.kind then Some (AfterPorts (module_of s n (Names [])))
-    else None))
-step (HeaderName s n ns) t = if is_name t.kind then Some (AfterHeaderName s n (ns ++ name_of t ∷ [])) else None
-step (AfterHeaderName s n ns) t =
-    if is_mark comma t.kind then Some (HeaderName s n ns)
-    else (if is_mark right_parenthesis t.kind then Some (AfterPorts (module_of s n (Names ns)))
-    else None)
-step (HeaderDecl s n ds d) t =
-    if is_dir t.kind then Some (AfterDir (ForHeader s n (ds ++ d ∷ [])) (dir_of t.kind))
-    else decl_name (ForHeader s n ds) d t
-step (AfterPorts m) t = if is_mark semicolon t.kind then Some (InItems m) else None
-step (AfterDir for d) t =
-    if is_word wire_word t.kind then Some (AfterWire for (decl_of (Some d) true None []))
-    else maybe_range for (decl_of (Some d) false None []) t
-step (AfterWire for d) t = maybe_range for d t
-step (RangeLeft for d) t = if is_number t.kind then Some (RangeColon for d (number_of t.kind) t.at) else None
-step (RangeColon for d left at) t = if is_mark colon t.kind then Some (RangeRight for d left at) else None
-step (RangeRight for d left at) t =
-    if is_number t.kind then Some (RangeClose for (with_range d (span_of left (number_of t.kind) at))) else None
-step (RangeClose for d) t = if is_mark right_bracket t.kind then Some (DeclName for d) else None
-step (DeclName for d) t = decl_name for d t
-step (AfterDeclName for d) t = after_decl_name for d t
-step (InItems m) t =
-    if is_word endmodule_word t.kind then Some (Top (finished m))
-    else (if is_dir t.kind then Some (AfterDir (ForItem m) (dir_of t.kind))
-    else (if is_word wire_word t.kind then Some (AfterWire (ForItem m) (decl_of None true None []))
-    else (if is_name t.kind then Some (InstName (insts_of m (name_of t) []))
-    else None)))
-step (InstName g) t = if is_name t.kind then Some (AfterInstName g (name_of t)) else None
-step (AfterInstName g n) t = if is_mark left_parenthesis t.kind then Some (FirstConn (inst_of g n [])) else None
-step (FirstConn i) t = if is_mark right_parenthesis t.kind then Some (AfterInst (with_inst i)) else next_conn i t
-step (NextConn i) t = next_conn i t
-step (PortName i at) t = if is_name t.kind then Some (AfterPortName i at (name_of t)) else None
-step (AfterPortName i at port) t = if is_mark left_parenthesis t.kind then Some (FirstExpr i at port) else None
-step (FirstExpr i at port) t =
+-- where a token leads from each state
+abbrev pub ways : State → Token → List (Bool × State)
+ways (Top s) t =
+    (is_cell t.kind, Top (with_mark s true)) ∷ (is_end_cell t.kind, Top (with_mark s false))
+    ∷ (is_word module_word t.kind, ModuleName s) ∷ []
+ways (ModuleName s) t = (is_name t.kind, AfterModuleName s (name_of t)) ∷ []
+ways (AfterModuleName s n) t =
+    (is_mark left_parenthesis t.kind, FirstHeader s n)
+    ∷ (is_mark semicolon t.kind, InItems (module_of s n (Names []))) ∷ []
+ways (FirstHeader s n) t =
+    (is_name t.kind, AfterHeaderName s n (name_of t ∷ []))
+    ∷ (is_dir t.kind, AfterDir (ForHeader s n []) (dir_of t.kind))
+    ∷ (is_mark right_parenthesis t.kind, AfterPorts (module_of s n (Names []))) ∷ []
+ways (HeaderName s n ns) t = (is_name t.kind, AfterHeaderName s n (ns ++ name_of t ∷ [])) ∷ []
+ways (AfterHeaderName s n ns) t =
+    (is_mark comma t.kind, HeaderName s n ns)
+    ∷ (is_mark right_parenthesis t.kind, AfterPorts (module_of s n (Names ns))) ∷ []
+ways (HeaderDecl s n ds d) t =
+    (is_dir t.kind, AfterDir (ForHeader s n (ds ++ d ∷ [])) (dir_of t.kind)) ∷ decl_name (ForHeader s n ds) d t
+ways (AfterPorts m) t = (is_mark semicolon t.kind, InItems m) ∷ []
+ways (AfterDir for d) t =
+    (is_word wire_word t.kind, AfterWire for (decl_of (Some d) true None []))
+    ∷ maybe_range for (decl_of (Some d) false None []) t
+ways (AfterWire for d) t = maybe_range for d t
+ways (RangeLeft for d) t = (is_number t.kind, RangeColon for d (number_of t.kind) t.at) ∷ []
+ways (RangeColon for d left at) t = (is_mark colon t.kind, RangeRight for d left at) ∷ []
+ways (RangeRight for d left at) t =
+    (is_number t.kind, RangeClose for (with_range d (span_of left (number_of t.kind) at))) ∷ []
+ways (RangeClose for d) t = (is_mark right_bracket t.kind, DeclName for d) ∷ []
+ways (DeclName for d) t = decl_name for d t
+ways (AfterDeclName for d) t = after_decl_name for d t
+ways (InItems m) t =
+    (is_word endmodule_word t.kind, Top (finished m)) ∷ (is_dir t.kind, AfterDir (ForItem m) (dir_of t.kind))
+    ∷ (is_word wire_word t.kind, AfterWire (ForItem m) (decl_of None true None []))
+    ∷ (is_name t.kind, InstName (insts_of m (name_of t) [])) ∷ []
+ways (InstName g) t = (is_name t.kind, AfterInstName g (name_of t)) ∷ []
+ways (AfterInstName g n) t = (is_mark left_parenthesis t.kind, FirstConn (inst_of g n [])) ∷ []
+ways (FirstConn i) t =
+    (is_mark right_parenthesis t.kind, AfterInst (with_inst i))
+    ∷ (is_mark comma t.kind, NextConn (with_conn i (empty_conn t.at))) ∷ some_conn i t
+ways (NextConn i) t = after_conn (with_conn i (empty_conn t.at)) t ++ some_conn i t
+ways (PortName i at) t = (is_name t.kind, AfterPortName i at (name_of t)) ∷ []
+ways (AfterPortName i at port) t = (is_mark left_parenthesis t.kind, FirstExpr i at port) ∷ []
+ways (FirstExpr i at port) t =
     let e = expr_of i at (Some port) t.at [] in
-    if is_mark right_parenthesis t.kind then Some (AfterConn (with_expr e)) else next_expr e 0 t
-step (NextExpr e depth) t = next_expr e depth t
-step (AfterPartName e depth n) t =
-    if is_mark left_bracket t.kind then Some (SelectLeft e depth n) else after_expr (with_part e (Name n)) depth t
-step (SelectLeft e depth n) t = if is_number t.kind then Some (AfterSelect e depth n (number_of t.kind)) else None
-step (AfterSelect e depth n left) t =
-    if is_mark right_bracket t.kind then Some (AfterExpr (with_part e (Bit n left)) depth)
-    else (if is_mark colon t.kind then Some (SelectRight e depth n left)
-    else None)
-step (SelectRight e depth n left) t =
-    if is_number t.kind then Some (SelectClose e depth n left (number_of t.kind)) else None
-step (SelectClose e depth n left right) t =
-    if is_mark right_bracket t.kind then Some (AfterExpr (with_part e (Bits n (range_of left right))) depth) else None
-step (AfterExpr e depth) t = after_expr e depth t
-step (AfterConn i) t = after_conn i t
-step (AfterInst g) t =
-    if is_mark comma t.kind then Some (InstName g)
-    else (if is_mark semicolon t.kind then Some (InItems (with_insts g))
-    else None)
+    (is_mark right_parenthesis t.kind, AfterConn (with_expr e)) ∷ next_expr e 0 t
+ways (NextExpr e depth) t = next_expr e depth t
+ways (AfterPartName e depth n) t =
+    (is_mark left_bracket t.kind, SelectLeft e depth n) ∷ after_expr (with_part e (Name n)) depth t
+ways (SelectLeft e depth n) t = (is_number t.kind, AfterSelect e depth n (number_of t.kind)) ∷ []
+ways (AfterSelect e depth n left) t =
+    (is_mark right_bracket t.kind, AfterExpr (with_part e (Bit n left)) depth)
+    ∷ (is_mark colon t.kind, SelectRight e depth n left) ∷ []
+ways (SelectRight e depth n left) t = (is_number t.kind, SelectClose e depth n left (number_of t.kind)) ∷ []
+ways (SelectClose e depth n left right) t =
+    (is_mark right_bracket t.kind, AfterExpr (with_part e (Bits n (range_of left right))) depth) ∷ []
+ways (AfterExpr e depth) t = after_expr e depth t
+ways (AfterConn i) t = after_conn i t
+ways (AfterInst g) t =
+    (is_mark comma t.kind, InstName g) ∷ (is_mark semicolon t.kind, InItems (with_insts g)) ∷ []
+
+-- one step
+abbrev pub step : State → Token → Option State
+step s t = taken (ways s t)
 
 -- where a state came, and what there is where none did
 abbrev pub upon : {A : Type 0} → Option State → (State → A) → A → A
