@@ -9,6 +9,7 @@ mod header;
 mod items;
 mod law;
 mod modules;
+mod parser;
 mod reader;
 mod refusal;
 mod tree;
@@ -16,4 +17,5 @@ mod word;
 
 pub use fault::ParseFault;
 pub use law::one_sentence;
+pub use parser::parse;
 pub use tree::{At, Decl, Header, Item, Part, Span, TConn, TInst, TModule, Tree};
