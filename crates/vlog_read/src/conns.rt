@@ -16,7 +16,7 @@ impl Reader<'_> {
     pub fn inst(&mut self) -> Result<TInst, ParseFault>
         ensures read { (g : InInsts)
             → Reads self.old.len (InstName g) (λ i. AfterInst (with_inst (inst_of g i.name i.conns)))
-                self.old.rest.now self.new.rest.now result }
+            self.old.rest.now self.new.rest.now result }
         ensures shorter { OnOk result (length self.new.rest.now < length self.old.rest.now) }
         ensures len { self.new.len ≡ self.old.len }
     {
@@ -31,7 +31,7 @@ impl Reader<'_> {
     fn conns(&mut self) -> Result<List<TConn>, ParseFault>
         ensures read { (g : InInsts) (n : At)
             → Reads self.old.len (FirstConn (inst_of g n [])) (λ cs. AfterInst (with_inst (inst_of g n cs)))
-                self.old.rest.now self.new.rest.now result }
+            self.old.rest.now self.new.rest.now result }
         ensures shorter { OnOk result (length self.new.rest.now < length self.old.rest.now) }
         ensures len { self.new.len ≡ self.old.len }
     {
@@ -54,7 +54,7 @@ impl Reader<'_> {
     fn conn(&mut self) -> Result<TConn, ParseFault>
         ensures read { (i : InInst)
             → Reads self.old.len (NextConn i) (λ c. AfterConn (with_conn i c))
-                self.old.rest.now self.new.rest.now result }
+            self.old.rest.now self.new.rest.now result }
         ensures shorter { OnOk result (length self.new.rest.now ≤ length self.old.rest.now) }
         ensures len { self.new.len ≡ self.old.len }
     {
@@ -79,7 +79,7 @@ impl Reader<'_> {
         ensures read { (i : InInst)
             → let at = first_at self.old.rest.now in
             Reads self.old.len (NextConn i) (λ ps. AfterConn (with_conn i (conn_of at None at ps)))
-                self.old.rest.now self.new.rest.now result }
+            self.old.rest.now self.new.rest.now result }
         ensures shorter { OnOk result (length self.new.rest.now ≤ length self.old.rest.now) }
         ensures len { self.new.len ≡ self.old.len }
     {
@@ -94,7 +94,7 @@ impl Reader<'_> {
     fn conn_by_name(&mut self, at: u32) -> Result<TConn, ParseFault>
         ensures read { (i : InInst)
             → Reads self.old.len (PortName i at) (λ c. AfterConn (with_conn i c))
-                self.old.rest.now self.new.rest.now result }
+            self.old.rest.now self.new.rest.now result }
         ensures shorter { OnOk result (length self.new.rest.now < length self.old.rest.now) }
         ensures len { self.new.len ≡ self.old.len }
     {
@@ -115,8 +115,8 @@ impl Reader<'_> {
     fn expr_by_name(&mut self) -> Result<List<Part>, ParseFault>
         ensures read { (i : InInst) (at : ℕ) (port : At)
             → Reads self.old.len (FirstExpr i at port)
-                (λ ps. AfterConn (with_conn i (conn_of at (Some port) (first_at self.old.rest.now) ps)))
-                self.old.rest.now self.new.rest.now result }
+            (λ ps. AfterConn (with_conn i (conn_of at (Some port) (first_at self.old.rest.now) ps)))
+            self.old.rest.now self.new.rest.now result }
         ensures shorter { OnOk result (length self.new.rest.now < length self.old.rest.now) }
         ensures len { self.new.len ≡ self.old.len }
     {

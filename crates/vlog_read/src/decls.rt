@@ -34,7 +34,7 @@ impl Reader<'_> {
     fn range(&mut self) -> Result<Span, ParseFault>
         ensures read { (for : DeclFor) (d : Option Dir) (wire : Bool)
             → Reads self.old.len (RangeLeft for (decl_of d wire None [])) (λ s. DeclName for (decl_of d wire (Some s) []))
-                self.old.rest.now self.new.rest.now result }
+            self.old.rest.now self.new.rest.now result }
         ensures shorter { OnOk result (length self.new.rest.now < length self.old.rest.now) }
         ensures len { self.new.len ≡ self.old.len }
     {
@@ -54,7 +54,7 @@ impl Reader<'_> {
     fn maybe_range(&mut self) -> Result<Option<Span>, ParseFault>
         ensures read { (for : DeclFor) (d : Option Dir) (wire : Bool)
             → Reads self.old.len (AfterWire for (decl_of d wire None [])) (λ r. DeclName for (decl_of d wire r []))
-                self.old.rest.now self.new.rest.now result }
+            self.old.rest.now self.new.rest.now result }
         ensures shorter { OnOk result (length self.new.rest.now ≤ length self.old.rest.now) }
         ensures len { self.new.len ≡ self.old.len }
     {
@@ -69,7 +69,7 @@ impl Reader<'_> {
     pub fn decl(&mut self, dir: Option<Dir>, wire: bool) -> Result<Decl, ParseFault>
         ensures read { (for : DeclFor)
             → Reads self.old.len (AfterWire for (decl_of dir wire None [])) (AfterDeclName for)
-                self.old.rest.now self.new.rest.now result }
+            self.old.rest.now self.new.rest.now result }
         ensures shorter { OnOk result (length self.new.rest.now < length self.old.rest.now) }
         ensures len { self.new.len ≡ self.old.len }
     {
@@ -89,10 +89,10 @@ impl Reader<'_> {
     pub fn more_names(&mut self, mut names: List<At>) -> Result<List<At>, ParseFault>
         ensures header { (s : SoFar) (n : At)
             → Reads self.old.len (AfterHeaderName s n names) (AfterHeaderName s n) self.old.rest.now self.new.rest.now
-                result }
+            result }
         ensures item { (m : InModule) (d : Option Dir) (wire : Bool) (r : Option Span)
             → Reads self.old.len (AfterDeclName (ForItem m) (decl_of d wire r names))
-                (λ ns. AfterDeclName (ForItem m) (decl_of d wire r ns)) self.old.rest.now self.new.rest.now result }
+            (λ ns. AfterDeclName (ForItem m) (decl_of d wire r ns)) self.old.rest.now self.new.rest.now result }
         ensures stops { OnOk result (IsNext (is_mark comma) self.new.rest.now ≡ false) }
         ensures shorter { OnOk result (length self.new.rest.now ≤ length self.old.rest.now) }
         ensures len { self.new.len ≡ self.old.len }

@@ -15,7 +15,7 @@ impl Reader<'_> {
     pub fn expr(&mut self) -> Result<List<Part>, ParseFault>
         ensures read { (i : InInst) (at : ℕ) (port : Option At) (expr_at : ℕ)
             → Reads self.old.len (NextExpr (expr_of i at port expr_at []) 0)
-                (λ ps. AfterExpr (expr_of i at port expr_at ps) 0) self.old.rest.now self.new.rest.now result }
+            (λ ps. AfterExpr (expr_of i at port expr_at ps) 0) self.old.rest.now self.new.rest.now result }
         ensures shorter { OnOk result (length self.new.rest.now < length self.old.rest.now) }
         ensures len { self.new.len ≡ self.old.len }
     {
@@ -70,7 +70,7 @@ impl Reader<'_> {
         requires { IsNext (is_mark left_brace) self.old.rest.now ≡ false }
         ensures read { (e : InConn) (depth : ℕ)
             → Reads self.old.len (NextExpr e depth) (λ p. AfterExpr (with_part e p) depth)
-                self.old.rest.now self.new.rest.now result }
+            self.old.rest.now self.new.rest.now result }
         ensures shorter { OnOk result (length self.new.rest.now < length self.old.rest.now) }
         ensures len { self.new.len ≡ self.old.len }
     {

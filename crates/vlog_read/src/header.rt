@@ -16,7 +16,7 @@ impl Reader<'_> {
     pub fn ports(&mut self) -> Result<Header, ParseFault>
         ensures read { (s : SoFar) (n : At)
             → Reads self.old.len (AfterModuleName s n) (λ h. AfterPorts (module_of s n h))
-                self.old.rest.now self.new.rest.now result }
+            self.old.rest.now self.new.rest.now result }
         ensures shorter { OnOk result (length self.new.rest.now ≤ length self.old.rest.now) }
         ensures len { self.new.len ≡ self.old.len }
     {
@@ -31,7 +31,7 @@ impl Reader<'_> {
     fn header(&mut self) -> Result<Header, ParseFault>
         ensures read { (s : SoFar) (n : At)
             → Reads self.old.len (FirstHeader s n) (λ h. AfterPorts (module_of s n h))
-                self.old.rest.now self.new.rest.now result }
+            self.old.rest.now self.new.rest.now result }
         ensures shorter { OnOk result (length self.new.rest.now < length self.old.rest.now) }
         ensures len { self.new.len ≡ self.old.len }
     {
@@ -54,7 +54,7 @@ impl Reader<'_> {
     fn port_decls(&mut self, dir: Dir) -> Result<List<Decl>, ParseFault>
         ensures read { (s : SoFar) (n : At)
             → Reads self.old.len (AfterDir (ForHeader s n []) dir) (λ ds. AfterPorts (module_of s n (Decls ds)))
-                self.old.rest.now self.new.rest.now result }
+            self.old.rest.now self.new.rest.now result }
         ensures shorter { OnOk result (length self.new.rest.now < length self.old.rest.now) }
         ensures len { self.new.len ≡ self.old.len }
     {
@@ -81,7 +81,7 @@ impl Reader<'_> {
     fn port_decl(&mut self, dir: Dir) -> Result<Decl, ParseFault>
         ensures read { (for : DeclFor)
             → Reads self.old.len (AfterDir for dir) (AfterDeclName for)
-                self.old.rest.now self.new.rest.now result }
+            self.old.rest.now self.new.rest.now result }
         ensures shorter { OnOk result (length self.new.rest.now < length self.old.rest.now) }
         ensures len { self.new.len ≡ self.old.len }
     {

@@ -18,7 +18,7 @@ impl Reader<'_> {
         requires { IsNext (is_word endmodule_word) self.old.rest.now ≡ false }
         ensures read { (m : InModule)
             → Reads self.old.len (InItems m) (λ i. InItems (with_item m i))
-                self.old.rest.now self.new.rest.now result }
+            self.old.rest.now self.new.rest.now result }
         ensures shorter { OnOk result (length self.new.rest.now < length self.old.rest.now) }
         ensures len { self.new.len ≡ self.old.len }
     {
@@ -41,7 +41,7 @@ impl Reader<'_> {
     fn decl_item(&mut self, dir: Option<Dir>, wire: bool) -> Result<Item, ParseFault>
         ensures read { (m : InModule)
             → Reads self.old.len (AfterWire (ForItem m) (decl_of dir wire None [])) (λ i. InItems (with_item m i))
-                self.old.rest.now self.new.rest.now result }
+            self.old.rest.now self.new.rest.now result }
         ensures shorter { OnOk result (length self.new.rest.now < length self.old.rest.now) }
         ensures len { self.new.len ≡ self.old.len }
     {
@@ -55,7 +55,7 @@ impl Reader<'_> {
     fn insts(&mut self) -> Result<List<TInst>, ParseFault>
         ensures read { (m : InModule) (master : At)
             → Reads self.old.len (InstName (insts_of m master [])) (λ is. AfterInst (insts_of m master is))
-                self.old.rest.now self.new.rest.now result }
+            self.old.rest.now self.new.rest.now result }
         ensures stops { OnOk result (IsNext (is_mark comma) self.new.rest.now ≡ false) }
         ensures shorter { OnOk result (length self.new.rest.now < length self.old.rest.now) }
         ensures len { self.new.len ≡ self.old.len }

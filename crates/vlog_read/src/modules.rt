@@ -38,7 +38,7 @@ impl Reader<'_> {
         requires other { IsNext is_celldefine self.old.rest.now ≡ false }
         ensures read { (ms : List TModule)
             → Reads self.old.len (Top (so_far ms marked)) (λ m. Top (so_far (ms ++ m ∷ []) marked))
-                self.old.rest.now self.new.rest.now result }
+            self.old.rest.now self.new.rest.now result }
         ensures shorter { OnOk result (length self.new.rest.now < length self.old.rest.now) }
         ensures len { self.new.len ≡ self.old.len }
     {
@@ -59,7 +59,7 @@ impl Reader<'_> {
     fn items(&mut self) -> Result<List<Item>, ParseFault>
         ensures read { (ms : List TModule) (marked : Bool) (n : At) (h : Header)
             → Reads self.old.len (InItems (inside ms marked n h [])) (λ is. Top (finished (inside ms marked n h is)))
-                self.old.rest.now self.new.rest.now result }
+            self.old.rest.now self.new.rest.now result }
         ensures shorter { OnOk result (length self.new.rest.now < length self.old.rest.now) }
         ensures len { self.new.len ≡ self.old.len }
     {

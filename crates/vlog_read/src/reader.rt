@@ -70,7 +70,11 @@ impl Reader<'_> {
         ensures taken { Takes (is_mark mark) (λ _. One (Mark mark)) self.old.len self.old.rest.now self.new.rest.now result }
         ensures len { self.new.len ≡ self.old.len }
     {
-        if self.takes(mark) { Ok(()) } else { Err(self.fault()) }
+        if self.takes(mark) {
+            Ok(())
+        } else {
+            Err(self.fault())
+        }
     }
 
     /// Takes the reserved word of this row, if it is next.
