@@ -2,6 +2,7 @@ mod shown;
 
 use emh_base::List;
 use shown::{shown, shown_tokens};
+use std::str::from_utf8;
 use std::test::Fail;
 use vlog_lex::{FILE_LIMIT, Token, TokenKind, Tokens, tokens};
 
@@ -82,7 +83,7 @@ fn sentences_are_read_to_their_trees(rt: HostRuntime) -> Result<(), Fail> {
         ),
     ];
     for (bytes, expected) in cases {
-        assert_eq!(rt; shown(rt.alloc(), bytes)?.as_str(), expected);
+        assert_eq!(rt; from_utf8(shown(rt.alloc(), bytes)?.as_slice())?, expected);
     }
     Ok(())
 }
@@ -131,7 +132,7 @@ fn the_first_token_that_may_not_stand_there_is_told(rt: HostRuntime) -> Result<(
         (b"`celldefine module", "unexpected @18"),
     ];
     for (bytes, expected) in cases {
-        assert_eq!(rt; shown(rt.alloc(), bytes)?.as_str(), expected);
+        assert_eq!(rt; from_utf8(shown(rt.alloc(), bytes)?.as_slice())?, expected);
     }
     Ok(())
 }
@@ -149,11 +150,9 @@ fn a_sentence_that_is_cut_ends_too_early(rt: HostRuntime) -> Result<(), Fail> {
         let read = tokens(alloc, &sentence[..sentence.len().min(FILE_LIMIT)])?;
         if let [before @ .., _] = read.items.as_slice() {
             for token in before {
-                let end = token.end;
-                assert_eq!(rt;
-                    shown(alloc, &sentence[..(end as usize).min(sentence.len())])?.as_str(),
-                    format!(in alloc; "unexpected @{end}")?.as_str()
-                );
+                let cut = &sentence[..(token.end as usize).min(sentence.len())];
+                let expected = format!(in alloc; "unexpected @{}", token.end)?;
+                assert_eq!(rt; from_utf8(shown(alloc, cut)?.as_slice())?, expected.as_str());
             }
         }
     }
@@ -164,20 +163,13 @@ fn a_sentence_that_is_cut_ends_too_early(rt: HostRuntime) -> Result<(), Fail> {
 fn braces_nest_to_any_depth(rt: HostRuntime) -> Result<(), Fail> {
     let alloc = rt.alloc();
     let mut bytes = b"module t; i u(".to_vec(alloc)?;
-    for _ in 0..10_000 {
-        bytes.push(b'{')?;
-    }
-    assert_eq!(rt;
-        shown(alloc, bytes.as_slice())?.as_str(),
-        "unexpected @10014"
-    );
+    bytes.extend_from_slice([b'{'; 10_000].as_slice())?;
+    assert_eq!(rt; from_utf8(shown(alloc, bytes.as_slice())?.as_slice())?, "unexpected @10014");
     bytes.push(b'a')?;
-    for _ in 0..10_000 {
-        bytes.push(b'}')?;
-    }
+    bytes.extend_from_slice([b'}'; 10_000].as_slice())?;
     bytes.extend_from_slice(b"); endmodule")?;
     assert_eq!(rt;
-        shown(alloc, bytes.as_slice())?.as_str(),
+        from_utf8(shown(alloc, bytes.as_slice())?.as_slice())?,
         "t@7 names { i@10 u@12(<@14 @14: a@10014>); }"
     );
     Ok(())
@@ -192,6 +184,6 @@ fn a_row_past_the_reserved_words_is_no_word(rt: HostRuntime) -> Result<(), Fail>
         end: 7,
     })?;
     let read = Tokens { items, len: 9 };
-    assert_eq!(rt; shown_tokens(rt.alloc(), &read)?.as_str(), "unexpected @3");
+    assert_eq!(rt; from_utf8(shown_tokens(rt.alloc(), &read)?.as_slice())?, "unexpected @3");
     Ok(())
 }
