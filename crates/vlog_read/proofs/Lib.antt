@@ -5,3 +5,4 @@ pub mod Spelled
 pub mod Left
 pub mod Sentences
 pub mod OneAnswer
+pub mod Worked

@@ -1,5 +1,5 @@
 -- All tokens spell one tree or have one fault.
-use Rattle.std.proofs.Common.{◌≡◌, ◌⊎◌, refl, sym, ◌∙◌, ℕ, true, List, inl, inr}
+use Rattle.std.proofs.Common.{◌≡◌, ◌⊎◌, refl, ℕ, List, inl, inr}
 use Rattle.std.specs.Prelude.{Result, Ok, Err, IfOk, IfErr, MatchResult}
 use Rattle.vlog_lex.specs.declared.token.Token.{Token}
 use Rattle.vlog_read.specs.declared.tree.Tree.{Tree}

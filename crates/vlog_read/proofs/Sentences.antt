@@ -5,7 +5,7 @@ use Rattle.vlog_lex.specs.declared.token.Token.{Token}
 use Rattle.vlog_read.specs.declared.tree.Tree.{Tree}
 use Rattle.vlog_read.specs.declared.fault.ParseFault.{ParseFault}
 use Rattle.vlog_read.specs.declared.fault.ParseFault.TheVariants.{Unexpected}
-use Rattle.vlog_read.specs.Grammar.{Source, the_end}
+use Rattle.vlog_read.specs.Grammar.{the_end}
 use Rattle.vlog_read.specs.Sentence.{Spells, Begins, StopsAt, StopsEarly, HasFault, fault_at}
 use Rattle.vlog_read.specs.Machine.State.{State, Top}
 use Rattle.vlog_read.specs.Machine.Step.{ways, step, upon, at_end, read, run, start}
@@ -131,7 +131,8 @@ read_fault len T fault is =
       | inl (before, t, after, n, whole, leads, stops, told) ↦
           inl (t, (before, after, whole, begins n before leads, begins_no_more n before t leads stops), told)
       | inr (n, leads, stops) ↦
-          inr ((begins n T leads, λ tree spells. let tree_is = spelled len tree T spells in cc), end_fault len n fault stops)
+          let no_tree : (tree : Tree) → Spells tree T → ⊥ = λ tree spells. let got = spelled len tree T spells in cc in
+          inr ((begins n T leads, no_tree), end_fault len n fault stops)
     ]
 
 -- tokens that begin a sentence lead to a state

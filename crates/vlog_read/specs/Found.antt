@@ -1,5 +1,4 @@
 -- A fault of the tokens, or want of memory.
-use Rattle.std.specs.Prelude.{ℕ}
 use Rattle.vlog_read.specs.declared.fault.ParseFault.{ParseFault}
 use Rattle.vlog_read.specs.declared.fault.ParseFault.TheVariants.{Unexpected, Unsupported, NoMemory}
 

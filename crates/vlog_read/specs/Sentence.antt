@@ -28,7 +28,7 @@ StopsAt T t =
 abbrev pub StopsEarly : List Token → Type 0
 StopsEarly T = Begins T × ((tree : Tree) → Spells tree T → ⊥)
 
--- a word that the grammar has no use for
+-- a reserved word that the grammar doesn't use is told by its text; a row past the table holds none
 abbrev pub unused_word : ℕ → Option (List ℕ) → ParseFault
 unused_word at (Some word) = Unsupported at word
 unused_word at None = Unexpected at

@@ -1,5 +1,5 @@
 -- From each state some tokens lead to a tree: the next token that closes something, and then the same again.
-use Rattle.std.proofs.Common.{◌≡◌, refl, ℕ, zero, suc, ◌-◌, nat_lt, Bool, true, false, List, [], ◌∷◌, ◌++◌, Option, Some, None, arith}
+use Rattle.std.proofs.Common.{◌≡◌, refl, ℕ, zero, suc, ◌-◌, nat_lt, true, false, List, [], ◌∷◌, ◌++◌, Option, Some, None, arith}
 use Rattle.std.proofs.lemmas.Bool.{lt-ltb}
 use Rattle.vlog_lex.specs.declared.token.Token.{Token}
 use Rattle.vlog_lex.specs.declared.token.TokenKind.{TokenKind}
@@ -139,7 +139,8 @@ can_select e depth n left =
     via (AfterSelect e depth n left) (AfterExpr f depth) (Mark right_bracket) refl (can_expr f depth)
 
 can_select_left : (e : InConn) (depth : ℕ) (n : At) → Can (SelectLeft e depth n)
-can_select_left e depth n = via (SelectLeft e depth n) (AfterSelect e depth n 0) (Number 0) refl (can_select e depth n 0)
+can_select_left e depth n =
+    via (SelectLeft e depth n) (AfterSelect e depth n 0) (Number 0) refl (can_select e depth n 0)
 
 pub can : (s : State) → Can s
 can (Top s) = can_top s

@@ -1,5 +1,5 @@
 -- Names, declarations and headers.
-use Rattle.std.proofs.Common.{◌≡◌, refl, sym, ◌∙◌, ap, subst, ℕ, Bool, true, false, List, [], ◌∷◌, ◌++◌, Option, Some, None, append_assoc, append-nil, inl, inr}
+use Rattle.std.proofs.Common.{refl, sym, subst, Bool, true, false, List, [], ◌∷◌, ◌++◌, Option, Some, None, append_assoc, append-nil, inl, inr}
 use Rattle.std.specs.Prelude.{IsSome}
 use Rattle.emh_base.specs.declared.plain.Dir.{Dir}
 use Rattle.vlog_lex.specs.declared.token.Token.{Token}
@@ -8,19 +8,17 @@ use Rattle.vlog_read.specs.declared.tree.At.{At}
 use Rattle.vlog_read.specs.declared.tree.Span.{Span}
 use Rattle.vlog_read.specs.declared.tree.Header.TheVariants.{Names, Decls}
 use Rattle.vlog_read.specs.declared.tree.Decl.{Decl}
-use Rattle.vlog_read.specs.Words.{wire_word, left_parenthesis, right_parenthesis, comma, colon, semicolon, left_bracket, right_bracket}
+use Rattle.vlog_read.specs.Words.{wire_word, left_parenthesis, right_parenthesis, comma, semicolon, left_bracket}
 use Rattle.vlog_lex.specs.declared.token.TokenKind.TheVariants.{Mark}
-use Rattle.vlog_read.specs.Grammar.{One, name, names, maybe_range, direction, decl}
-use Rattle.vlog_read.specs.Machine.State.{State, SoFar, DeclFor, ForHeader, ForItem, module_of, decl_of, with_range, with_name, span_of, AfterModuleName, FirstHeader, HeaderName, AfterHeaderName, HeaderDecl, AfterDir, AfterWire, DeclName, AfterDeclName}
-use Rattle.vlog_read.specs.Machine.Step.{ways, number_of, name_of, dir_of}
-use Rattle.vlog_read.proofs.Spelled.Decls.{with_names}
-use Rattle.vlog_read.proofs.Left.Ends
-use Rattle.vlog_read.proofs.Left.Ends.{Rest, ◌and◌, ends_ports, ends_header, ends_header_name, ends_decl, ends_decl_name, at_decl_name, ends_wire, ends_dir, at_header_decl}
+use Rattle.vlog_read.specs.Grammar.{One, names, range, maybe_range, direction, decl}
+use Rattle.vlog_read.specs.Machine.State.{State, SoFar, DeclFor, ForHeader, ForItem, module_of, decl_of, span_of, AfterModuleName, FirstHeader, AfterHeaderName, HeaderDecl, AfterDir, AfterWire, DeclName, AfterDeclName}
+use Rattle.vlog_read.specs.Machine.Step.{ways, name_of, dir_of}
+use Rattle.vlog_read.proofs.Left.Ends.{Ends, ◌and◌, ends_ports, ends_header, ends_module_name, ends_header_name, ends_decl, ends_decl_name, at_decl_name, ends_wire, ends_dir, at_header_decl}
 use Rattle.vlog_read.proofs.Left.Tokens.{Chosen, by_mark, by_word, by_name, by_dir}
 
 -- the token t leads from the state to one from which the tokens U lead to the tree
 abbrev pub Follows : State → Tree → Token → List Token → Type 0
-Follows s tree t U = Chosen (ways s t) (λ n. Ends.Ends n tree U)
+Follows s tree t U = Chosen (ways s t) (λ n. Ends n tree U)
 
 -- the whole of a declaration, from its parts
 left_names : (for : DeclFor) (d : Option Dir) (w : Bool) (r : Option Span) (tree : Tree) (T : List Token)
@@ -68,7 +66,7 @@ next_decl s n ds d tree t U comma_is (inr (e, (V, dir_is, after))) =
     let (f, some, (W, decl_is, (fs, (X, more, close)))) =
     left_decl (ForHeader s n (ds ++ d ∷ [])) e tree U V dir_is after in
     let P : List Decl → Type 0 = λ ks. ends_header s n (Decls ks) tree X in
-    let close' : ends_header s n (Decls (ds ++ d ∷ f ∷ fs)) tree X = subst P (append_assoc ds (d ∷ []) (f ∷ fs)) close in
+    let close' : P (ds ++ d ∷ f ∷ fs) = subst P (append_assoc ds (d ∷ []) (f ∷ fs)) close in
     whole_decl (ForHeader s n ds) d tree (t ∷ U) (f ∷ fs, (X, (U, comma_is, (W, (some, decl_is), more)), close'))
 
 pub back_decl_name : (for : DeclFor) (d : Decl) (tree : Tree) (t : Token) (U : List Token)
@@ -78,19 +76,25 @@ back_decl_name for d tree t U (inr none) = absurd none
 
 pub back_after_decl_name : (for : DeclFor) (d : Decl) (tree : Tree) (t : Token) (U : List Token)
     → Follows (AfterDeclName for d) tree t U → ends_decl_name for d tree (t ∷ U)
-back_after_decl_name (ForHeader s n ds) d tree t U (inl (a, rest)) = next_decl s n ds d tree t U (by_mark comma t U a) rest
+back_after_decl_name (ForHeader s n ds) d tree t U (inl (a, rest)) =
+    next_decl s n ds d tree t U (by_mark comma t U a) rest
 back_after_decl_name (ForHeader s n ds) d tree t U (inr (inl (a, rest))) =
     whole_decl (ForHeader s n ds) d tree (t ∷ U) ([], (t ∷ U, refl, (U, by_mark right_parenthesis t U a, rest)))
 back_after_decl_name (ForHeader s n ds) d tree t U (inr (inr none)) = absurd none
-back_after_decl_name (ForItem m) d tree t U (inl (a, rest)) = next_name (ForItem m) d tree t U (by_mark comma t U a) rest
+back_after_decl_name (ForItem m) d tree t U (inl (a, rest)) =
+    next_name (ForItem m) d tree t U (by_mark comma t U a) rest
 back_after_decl_name (ForItem m) d tree t U (inr (inl (a, rest))) =
     whole_decl (ForItem m) d tree (t ∷ U) (U, by_mark semicolon t U a, rest)
 back_after_decl_name (ForItem m) d tree t U (inr (inr none)) = absurd none
 
 pub back_after_wire : (for : DeclFor) (d : Decl) (tree : Tree) (t : Token) (U : List Token)
     → Follows (AfterWire for d) tree t U → ends_wire for d tree (t ∷ U)
-back_after_wire for d tree t U (inl (a, (left, at, (A, left_is, (B, colon_is, (right, (C, right_is, (D, close_is, rest)))))))) =
-    inr (span_of left right at, (D, (U, by_mark left_bracket t U a, (A, left_is, (B, colon_is, (C, right_is, close_is)))), rest))
+back_after_wire for d tree t U (inl (a, (left, at, (A, left_is, (B, colon_is, (right, (C, right_is, close))))))) =
+    let (D, close_is, rest) = close in
+    let s : Span = span_of left right at in
+    let range_is : range s (t ∷ U) D =
+    (U, by_mark left_bracket t U a, (A, left_is, (B, colon_is, (C, right_is, close_is)))) in
+    inr (s, (D, range_is, rest))
 back_after_wire for d tree t U (inr h) = inl (back_decl_name for d tree t U h)
 
 pub back_after_dir : (for : DeclFor) (d : Dir) (tree : Tree) (t : Token) (U : List Token)
@@ -115,7 +119,7 @@ back_after_header_name s n ns tree t U (inr (inl (a, rest))) =
 back_after_header_name s n ns tree t U (inr (inr none)) = absurd none
 
 pub back_first_header : (s : SoFar) (n : At) (tree : Tree) (t : Token) (U : List Token)
-    → Follows (FirstHeader s n) tree t U → Ends.Ends (FirstHeader s n) tree (t ∷ U)
+    → Follows (FirstHeader s n) tree t U → Ends (FirstHeader s n) tree (t ∷ U)
 back_first_header s n tree t U (inl (a, (ms, (V, more, close)))) =
     (Names (name_of t ∷ ms), (V, (U, by_name t U a, more), close))
 back_first_header s n tree t U (inr (inl (a, rest))) =
@@ -127,7 +131,7 @@ back_first_header s n tree t U (inr (inr (inl (a, rest)))) =
 back_first_header s n tree t U (inr (inr (inr none))) = absurd none
 
 pub back_after_module_name : (s : SoFar) (n : At) (tree : Tree) (t : Token) (U : List Token)
-    → Follows (AfterModuleName s n) tree t U → Ends.ends_module_name s n tree (t ∷ U)
+    → Follows (AfterModuleName s n) tree t U → ends_module_name s n tree (t ∷ U)
 back_after_module_name s n tree t U (inl (a, (h, (V, header_is, (W, close, rest))))) =
     (h, (W, inr (U, by_mark left_parenthesis t U a, (V, header_is, close)), rest))
 back_after_module_name s n tree t U (inr (inl (a, rest))) =

@@ -1,5 +1,5 @@
 -- The tokens that lead from each state to a tree, told by the grammar.
-use Rattle.std.proofs.Common.{◌≡◌, ◌⊎◌, ℕ, zero, suc, Bool, true, false, List, [], ◌∷◌, ◌++◌, Option, Some, None}
+use Rattle.std.proofs.Common.{◌≡◌, ◌⊎◌, ℕ, zero, suc, Bool, List, [], ◌∷◌, ◌++◌, Option, Some, None}
 use Rattle.emh_base.specs.declared.plain.Dir.{Dir}
 use Rattle.vlog_lex.specs.declared.token.Token.{Token}
 use Rattle.vlog_lex.specs.declared.token.TokenKind.TheVariants.{Reserved, Number, Mark}
@@ -17,7 +17,7 @@ use Rattle.vlog_read.specs.declared.tree.TConn.{TConn}
 use Rattle.vlog_read.specs.declared.tree.Part.{Part}
 use Rattle.vlog_read.specs.declared.tree.Part.TheVariants.{Name, Bit, Bits}
 use Rattle.vlog_read.specs.Words.{endmodule_word, left_parenthesis, right_parenthesis, colon, semicolon, left_bracket, right_bracket, right_brace}
-use Rattle.vlog_read.specs.Grammar.{Reading, One, OneAt, name, more_names, range, direction, maybe_wire, Expr, MoreExprs, maybe_expr, conn, more_conns, conns, inst, more_insts, item, items, more_port_decls, header, ports, Source, first_at}
+use Rattle.vlog_read.specs.Grammar.{Reading, One, OneAt, name, more_names, range, direction, maybe_wire, Expr, MoreExprs, maybe_expr, conn, more_conns, conns, inst, more_insts, items, more_port_decls, header, ports, Source, first_at}
 use Rattle.vlog_read.specs.Machine.State.{State, SoFar, InModule, DeclFor, InInsts, InInst, InConn, ForHeader, ForItem, module_of, with_item, finished, decl_of, with_range, with_name, range_of, span_of, inst_of, with_conn, with_inst, with_insts, expr_of, with_part, with_expr, Top, ModuleName, AfterModuleName, FirstHeader, HeaderName, AfterHeaderName, HeaderDecl, AfterPorts, AfterDir, AfterWire, RangeLeft, RangeColon, RangeRight, RangeClose, DeclName, AfterDeclName, InItems, InstName, AfterInstName, FirstConn, NextConn, PortName, AfterPortName, FirstExpr, NextExpr, AfterPartName, SelectLeft, AfterSelect, SelectRight, SelectClose, AfterExpr, AfterConn, AfterInst}
 use Rattle.vlog_read.proofs.Spelled.Decls.{with_names}
 use Rattle.vlog_read.proofs.Spelled.Exprs.{with_parts, with_conns, more_insts_of}
@@ -28,7 +28,6 @@ abbrev pub Rest : Type 1
 Rest = List Token → Type 0
 
 infixr 5 ◌and◌
-
 -- a part of the grammar, and what is left after it
 abbrev pub ◌and◌ : Reading → Rest → Rest
 (R and E) T = (U : List Token) × R T U × E U

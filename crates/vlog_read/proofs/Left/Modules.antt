@@ -1,5 +1,5 @@
 -- Items, modules, and all states.
-use Rattle.std.proofs.Common.{◌≡◌, refl, sym, ◌∙◌, ap, subst, Bool, true, List, [], ◌∷◌, ◌++◌, Option, Some, None, append_assoc, append-nil, inl, inr}
+use Rattle.std.proofs.Common.{refl, sym, ◌∙◌, ap, subst, true, List, [], ◌∷◌, None, append_assoc, append-nil, inl, inr}
 use Rattle.vlog_lex.specs.declared.token.Token.{Token}
 use Rattle.vlog_lex.specs.declared.token.TokenKind.TheVariants.{Reserved}
 use Rattle.vlog_read.specs.declared.tree.Tree.{Tree}
@@ -7,10 +7,10 @@ use Rattle.vlog_read.specs.declared.tree.TModule.{TModule}
 use Rattle.vlog_read.specs.declared.tree.Item.{Item}
 use Rattle.vlog_read.specs.declared.tree.Item.TheVariants.{Decl as Declaration, Insts}
 use Rattle.vlog_read.specs.Words.{endmodule_word, module_word, wire_word, left_parenthesis, colon, semicolon, right_bracket}
-use Rattle.vlog_read.specs.Grammar.{One, item, cell, end_cell, next_module}
+use Rattle.vlog_read.specs.Grammar.{One, item, one_module, cell, end_cell, next_module}
 use Rattle.vlog_read.specs.Machine.State.{State, SoFar, InModule, ForItem, with_item, finished, Top, ModuleName, AfterModuleName, FirstHeader, HeaderName, AfterHeaderName, HeaderDecl, AfterPorts, AfterDir, AfterWire, RangeLeft, RangeColon, RangeRight, RangeClose, DeclName, AfterDeclName, InItems, InstName, AfterInstName, FirstConn, NextConn, PortName, AfterPortName, FirstExpr, NextExpr, AfterPartName, SelectLeft, AfterSelect, SelectRight, SelectClose, AfterExpr, AfterConn, AfterInst}
 use Rattle.vlog_read.specs.Machine.Step.{number_of, name_of, dir_of}
-use Rattle.vlog_read.proofs.Spelled.Modules.{with_items}
+use Rattle.vlog_read.proofs.Spelled.Modules.{items_of}
 use Rattle.vlog_read.proofs.Left.Ends.{Ends, ends_top, ends_items}
 use Rattle.vlog_read.proofs.Left.Tokens.{by_mark, by_word, by_name, by_number, by_cell, by_end_cell, by_dir}
 use Rattle.vlog_read.proofs.Left.Decls.{Follows, left_range, left_decl, back_decl_name, back_after_decl_name, back_after_wire, back_after_dir, back_header_decl, back_after_header_name, back_first_header, back_after_module_name}
@@ -20,14 +20,14 @@ use Rattle.vlog_read.proofs.Left.Exprs.{back_after_conn, back_next_expr, back_af
 next_item : (m : InModule) (i : Item) (tree : Tree) (T U : List Token) → item i T U
     → ends_items (with_item m i) tree U → ends_items m tree T
 next_item m i tree T U is (js, (V, are, (W, close, rest))) =
-    let P : List Item → Type 0 = λ ks. ends_top (finished (with_items (record { modules = m.modules; current = record m.current { items = [] } }) ks)) tree W in
+    let P : List Item → Type 0 = λ ks. ends_top (finished (items_of m ks)) tree W in
     (i ∷ js, (V, (U, is, are), (W, close, subst P (append_assoc m.current.items (i ∷ []) js) rest)))
 
 -- no more items
 last_item : (m : InModule) (tree : Tree) (t : Token) (U : List Token) → One (Reserved endmodule_word) (t ∷ U) U
     → ends_top (finished m) tree U → ends_items m tree (t ∷ U)
 last_item m tree t U close rest =
-    let P : List Item → Type 0 = λ ks. ends_top (finished (with_items (record { modules = m.modules; current = record m.current { items = [] } }) ks)) tree U in
+    let P : List Item → Type 0 = λ ks. ends_top (finished (items_of m ks)) tree U in
     ([], (t ∷ U, refl, (U, close, subst P (sym (append-nil m.current.items)) rest)))
 
 back_items : (m : InModule) (tree : Tree) (t : Token) (U : List Token) → Follows (InItems m) tree t U
@@ -41,7 +41,7 @@ back_items m tree t U (inr (inr (inl (a, rest)))) =
     let (r, ns, V, W, range_is, names_are, (X, close, rest')) = left_range (ForItem m) None true tree U rest in
     next_item m (Declaration (record { dir = None; wire = true; range = r; names = ns })) tree (t ∷ U) X
     (W, (U, by_word wire_word t U a, (V, range_is, names_are)), close) rest'
-back_items m tree t U (inr (inr (inr (inl (a, (i, (V, inst_is, (is, (W, more, (X, close, rest))))))))) ) =
+back_items m tree t U (inr (inr (inr (inl (a, (i, (V, inst_is, (is, (W, more, (X, close, rest)))))))))) =
     next_item m (Insts (name_of t) (i ∷ is)) tree (t ∷ U) X (U, by_name t U a, (W, (V, inst_is, more), close)) rest
 back_items m tree t U (inr (inr (inr (inr none)))) = absurd none
 
@@ -49,12 +49,12 @@ back_top : (s : SoFar) (tree : Tree) (t : Token) (U : List Token) → Follows (T
     → ends_top s tree (t ∷ U)
 back_top s tree t U (inl (a, (ms, is, same))) = (ms, cell (by_cell t U a) is, same)
 back_top s tree t U (inr (inl (a, (ms, is, same)))) = (ms, end_cell (by_end_cell t U a) is, same)
-back_top s tree t U (inr (inr (inl (a, (n, (V, name_is, (h, (W, ports_are, (X, close, (is, (Y, items_are, (Z, end_is, (ms, rest, same))))))))))))) =
+back_top s tree t U (inr (inr (inl (a, (n, (V, name_is, (h, (W, ports_are, (X, close, left))))))))) =
+    let (is, (Y, items_are, (Z, end_is, (ms, rest, same)))) = left in
     let m : TModule = record { name = n; marked = s.marked; header = h; items = is } in
-    (m ∷ ms,
-    next_module refl
-    (U, by_word module_word t U a, (V, name_is, (W, ports_are, (X, close, (Y, items_are, end_is))))) rest,
-    same ∙ ap (λ ks. record { modules = ks }) (append_assoc s.modules (m ∷ []) ms))
+    let one : one_module m (t ∷ U) Z =
+    (U, by_word module_word t U a, (V, name_is, (W, ports_are, (X, close, (Y, items_are, end_is))))) in
+    (m ∷ ms, next_module refl one rest, same ∙ ap (λ ks. record { modules = ks }) (append_assoc s.modules (m ∷ []) ms))
 back_top s tree t U (inr (inr (inr none))) = absurd none
 
 -- the token t before the tokens U

@@ -1,5 +1,5 @@
 -- A token that passes a test is the one that the grammar asks for.
-use Rattle.std.proofs.Common.{◌≡◌, refl, sym, ◌∙◌, ap, subst, ℕ, Bool, true, false, nat_eq, ◌||◌, List, [], ◌∷◌, Option, Some, None, inl, inr, ◌⊎◌}
+use Rattle.std.proofs.Common.{◌≡◌, refl, ap, subst, ℕ, Bool, true, false, nat_eq, ◌||◌, List, [], ◌∷◌, Some, inl, inr, ◌⊎◌}
 use Rattle.std.specs.Prelude.{if◌then◌else◌}
 use Rattle.std.proofs.lemmas.Bool.{eqb-true}
 use Rattle.emh_base.specs.declared.plain.Dir.{Dir}

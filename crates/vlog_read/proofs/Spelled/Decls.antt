@@ -10,10 +10,12 @@ use Rattle.vlog_read.specs.declared.tree.Header.{Header}
 use Rattle.vlog_read.specs.declared.tree.Header.TheVariants.{Names, Decls}
 use Rattle.vlog_read.specs.declared.tree.Decl.{Decl}
 use Rattle.vlog_read.specs.declared.tree.Item.TheVariants.{Decl as Declaration}
-use Rattle.vlog_read.specs.Words.{right_parenthesis, semicolon}
-use Rattle.vlog_read.specs.Grammar.{One, name, names, more_names, maybe_range, direction, maybe_wire, decl, port_decl, more_port_decls, header, ports}
-use Rattle.vlog_read.specs.Machine.State.{SoFar, InModule, DeclFor, ForHeader, ForItem, module_of, with_item, decl_of, with_name, AfterModuleName, FirstHeader, AfterHeaderName, HeaderDecl, AfterPorts, AfterDir, AfterWire, AfterDeclName, InItems}
-use Rattle.vlog_read.specs.Machine.Step.{read}
+use Rattle.vlog_read.specs.Words.{wire_word, right_parenthesis, semicolon}
+use Rattle.vlog_read.specs.Grammar.{One, name, names, more_names, range, maybe_range, direction, maybe_wire, decl, port_decl, more_port_decls, header, ports}
+use Rattle.vlog_read.specs.Machine.State.{SoFar, InModule, DeclFor, ForHeader, ForItem, module_of, with_item, decl_of, with_range, with_name, AfterModuleName, FirstHeader, AfterHeaderName, HeaderDecl, AfterPorts, AfterDir, AfterWire, DeclName, AfterDeclName, InItems}
+use Rattle.vlog_read.specs.Machine.Step.{is_word, read}
+use Rattle.vlog_read.specs.Machine.Reads.{IsNext}
+use Rattle.vlog_read.proofs.Passing.{no_wire}
 
 -- a declaration with more names
 abbrev pub with_names : Decl → List At → Decl
@@ -38,13 +40,25 @@ more_decl_names len (ForItem i) d (m ∷ ms) T U (V, (_, (_, a)), (W, (_, b), mo
     ∙ ap (λ ks. read len (AfterDeclName (ForItem i) (decl_of d.dir d.wire d.range ks)) U)
     (append_assoc d.names (m ∷ []) ms))
 
+-- a range
+range_read : (len : ℕ) (for : DeclFor) (d : Decl) (s : Span) (T U : List Token) → range s T U
+    → read len (AfterWire for d) T ≡ read len (DeclName for (with_range d s)) U
+range_read len for d s T U (A, (_, (_, a)), (B, (_, b), (C, (_, (_, c)), (D, (_, (_, e)), (_, (_, f)))))) =
+    rw (a, b, c, e, f) refl
+
 -- a range that may be missing, and a name
 range_name : (len : ℕ) (for : DeclFor) (d : Option Dir) (w : Bool) (r : Option Span) (n : At) (T V U : List Token)
     → maybe_range r T V → name n V U
     → read len (AfterWire for (decl_of d w None [])) T ≡ read len (AfterDeclName for (decl_of d w r (n ∷ []))) U
 range_name len for d w None n T V U same (_, e) = rw (same, e) refl
-range_name len for d w (Some s) n T V U (A, (_, (_, a)), (B, (_, b), (C, (_, (_, c)), (D, (_, (_, d')), (_, (_, e)))))) (_, f) =
-    rw (a, b, c, d', e, f) refl
+range_name len for d w (Some s) n T V U range_is (_, e) =
+    range_read len for (decl_of d w None []) s T V range_is ∙ rw e refl
+
+-- they begin with no word
+no_word : (row : ℕ) (r : Option Span) (n : At) (T V U : List Token) → maybe_range r T V → name n V U
+    → IsNext (is_word row) T ≡ false
+no_word row None n T V U same (_, e) = rw (same, e) refl
+no_word row (Some s) n T V U (A, (_, (_, a)), rest) name_is = rw a refl
 
 -- the same after a direction and a `wire` that may be missing
 wire_range_name : (len : ℕ) (for : DeclFor) (d : Dir) (w : Bool) (r : Option Span) (n : At) (T V W U : List Token)
@@ -52,9 +66,9 @@ wire_range_name : (len : ℕ) (for : DeclFor) (d : Dir) (w : Bool) (r : Option S
     → read len (AfterDir for d) T ≡ read len (AfterDeclName for (decl_of (Some d) w r (n ∷ []))) U
 wire_range_name len for d true r n T V W U (_, (_, a)) range_is name_is =
     rw a (range_name len for (Some d) true r n V W U range_is name_is)
-wire_range_name len for d false None n T V W U a b (_, c) = rw (a, b, c) refl
-wire_range_name len for d false (Some s) n T V W U z (A, (_, (_, a)), (B, (_, b), (C, (_, (_, c)), (D, (_, (_, d')), (_, (_, e)))))) (_, f) =
-    rw (z, a, b, c, d', e, f) refl
+wire_range_name len for d false r n T V W U same range_is name_is =
+    rw same (no_wire len for d V (no_word wire_word r n V W U range_is name_is)
+    ∙ range_name len for (Some d) false r n V W U range_is name_is)
 
 -- a declaration from the state after its direction
 rest_of_decl : (len : ℕ) (for : DeclFor) (d : Dir) (w : Bool) (r : Option Span) (ns : List At) (T V W U : List Token)

@@ -18,9 +18,12 @@ use Rattle.vlog_read.specs.Machine.Step.{is_mark, ends_conn, read}
 use Rattle.vlog_read.specs.Machine.Reads.{IsNext}
 use Rattle.vlog_read.proofs.Passing.{some_conn, no_conn, conn_by_order, end_by_order, some_expr, no_select}
 
--- an expression with more parts
+-- an expression with these parts, and with more parts
+abbrev pub parts_of : InConn → List Part → InConn
+parts_of e ps = expr_of e.inside e.at e.port e.expr_at ps
+
 abbrev pub with_parts : InConn → List Part → InConn
-with_parts e ps = expr_of e.inside e.at e.port e.expr_at (e.parts ++ ps)
+with_parts e ps = parts_of e (e.parts ++ ps)
 
 -- the first token is of this kind
 is_next : (test : TokenKind → Bool) (kind : TokenKind) (T U : List Token) → One kind T U → IsNext test T ≡ test kind
@@ -32,7 +35,8 @@ part_read : (len : ℕ) (e : InConn) (depth : ℕ) (p : Part) (T U : List Token)
 part_read len e depth (Name n) T U (_, a) h = rw a (no_select len e depth n U h)
 part_read len e depth (Bit n i) T U (V, (_, a), (W, (_, (_, b)), (X, (_, (_, c)), (_, (_, d))))) h =
     rw (a, b, c, d) refl
-part_read len e depth (Bits n r) T U (V, (_, a), (W, (_, (_, b)), (X, (_, (_, c)), (Y, (_, (_, d)), (Z, (_, (_, f)), (_, (_, g))))))) h =
+part_read len e depth (Bits n r) T U (V, (_, a), (W, (_, (_, b)), (X, (_, (_, c)), (Y, (_, (_, d)), rest)))) h =
+    let (Z, (_, (_, f)), (_, (_, g))) = rest in
     rw (a, b, c, d, f, g) refl
 part_read len e depth (Lit size value) T U (_, (_, a)) h = rw a refl
 
@@ -64,19 +68,19 @@ mutual
   expr_read len e depth {U = U} (joined {ps = ps} {qs = qs} {W = W} {X = X} (_, (_, a)) first rest close same) h =
       rw (a, same) (expr_read len e (depth + 1) first (after_more rest close)
       ∙ more_exprs_read len (with_parts e ps) depth rest close
-      ∙ ap (λ rs. read len (AfterExpr (expr_of e.inside e.at e.port e.expr_at rs) (depth + 1)) X) (append_assoc e.parts ps qs)
+      ∙ ap (λ rs. read len (AfterExpr (parts_of e rs) (depth + 1)) X) (append_assoc e.parts ps qs)
       ∙ close_read len (with_parts e (ps ++ qs)) depth X U close)
 
   more_exprs_read : (len : ℕ) (e : InConn) (depth : ℕ) {ps : List Part} {T U V : List Token} → MoreExprs ps T U
       → One (Mark right_brace) U V
       → read len (AfterExpr e (depth + 1)) T ≡ read len (AfterExpr (with_parts e ps) (depth + 1)) U
   more_exprs_read len e depth {U = U} no_more close =
-      ap (λ rs. read len (AfterExpr (expr_of e.inside e.at e.port e.expr_at rs) (depth + 1)) U) (sym (append-nil e.parts))
+      ap (λ rs. read len (AfterExpr (parts_of e rs) (depth + 1)) U) (sym (append-nil e.parts))
   more_exprs_read len e depth {T = T} {U = U} (one_more {ps = ps} {qs = qs} {V = V} {W = W} a first rest same) close =
       rw same (comma_read len e depth T V a
       ∙ expr_read len e (depth + 1) first (after_more rest close)
       ∙ more_exprs_read len (with_parts e ps) depth rest close
-      ∙ ap (λ rs. read len (AfterExpr (expr_of e.inside e.at e.port e.expr_at rs) (depth + 1)) U) (append_assoc e.parts ps qs))
+      ∙ ap (λ rs. read len (AfterExpr (parts_of e rs) (depth + 1)) U) (append_assoc e.parts ps qs))
 
 -- an expression has a part
 front_empty : (ps qs : List Part) → ps ++ qs ≡ [] → ps ≡ []
@@ -130,9 +134,11 @@ order_read len i at expr_at (p ∷ ps) T U (same, (V, (first, a), is)) h =
 name_read : (len : ℕ) (i : InInst) (at : ℕ) (port : At) (expr_at : ℕ) (ps : List Part) (T U : List Token)
     → by_name port (state.conn_of at (Some port) expr_at ps) T U
     → read len (NextConn i) T ≡ read len (AfterConn (with_conn i (state.conn_of at (Some port) expr_at ps))) U
-name_read len i at port expr_at [] T U (V, (_, a), (W, (_, b), (X, (_, (_, c)), (Y, (first, d), (Z, e, (_, (_, f))))))) =
+name_read len i at port expr_at [] T U (V, (_, a), (W, (_, b), (X, (_, (_, c)), (Y, (first, d), rest)))) =
+    let (Z, e, (_, (_, f))) = rest in
     rw (a, b, c, sym first, d, e, f) refl
-name_read len i at port expr_at (p ∷ ps) T U (V, (_, a), (W, (_, b), (X, (_, (_, c)), (Y, (first, d), (Z, is, close))))) =
+name_read len i at port expr_at (p ∷ ps) T U (V, (_, a), (W, (_, b), (X, (_, (_, c)), (Y, (first, d), rest)))) =
+    let (Z, is, close) = rest in
     rw (a, b, c, sym first, d)
     (some_expr len i at port Y (expr_begins (is_mark right_parenthesis) (λ _. refl) (λ _ _. refl) refl is)
     ∙ expr_read len (expr_of i at (Some port) (first_at Y) []) 0 is
@@ -145,9 +151,12 @@ conn_read : (len : ℕ) (i : InInst) (at : ℕ) (port : Option At) (expr_at : �
 conn_read len i at None expr_at ps T U is h = order_read len i at expr_at ps T U is h
 conn_read len i at (Some port) expr_at ps T U is h = name_read len i at port expr_at ps T U is
 
--- an instance with more connections
+-- an instance with these connections, and with more connections
+abbrev pub conns_of : InInst → List TConn → InInst
+conns_of i cs = inst_of i.inside i.name cs
+
 abbrev pub with_conns : InInst → List TConn → InInst
-with_conns i cs = inst_of i.inside i.name (i.conns ++ cs)
+with_conns i cs = conns_of i (i.conns ++ cs)
 
 ends_next : (cs : List TConn) (T V U : List Token) → more_conns cs T V → One (Mark right_parenthesis) V U
     → IsNext ends_conn T ≡ true
@@ -161,7 +170,7 @@ more_conns_read len i [] T V U same (_, (_, a)) = rw (same, a, append-nil i.conn
 more_conns_read len i (c ∷ cs) T V U (W, (_, (_, a)), (X, is, more)) close =
     rw a (conn_read len i c.at c.port c.expr_at c.parts W X is (ends_next cs X V U more close)
     ∙ more_conns_read len (with_conn i c) cs X V U more close
-    ∙ ap (λ ds. read len (AfterInst (with_inst (inst_of i.inside i.name ds))) U) (append_assoc i.conns (c ∷ []) cs))
+    ∙ ap (λ ds. read len (AfterInst (with_inst (conns_of i ds))) U) (append_assoc i.conns (c ∷ []) cs))
 
 -- a connection that isn't empty begins with no closing parenthesis
 lone_begins : (at : ℕ) (port : Option At) (expr_at : ℕ) (ps : List Part) (T U : List Token)
@@ -197,7 +206,7 @@ conns_read len i (c ∷ d ∷ cs) T V U (W, is, (X, a, more)) close =
     some_conn len i T (conn_begins c.at c.port c.expr_at c.parts T W X is a)
     ∙ conn_read len i c.at c.port c.expr_at c.parts T W is (is_next ends_conn (Mark comma) W X a)
     ∙ more_conns_read len (with_conn i c) (d ∷ cs) W V U (X, a, more) close
-    ∙ ap (λ ds. read len (AfterInst (with_inst (inst_of i.inside i.name ds))) U) (append_assoc i.conns (c ∷ []) (d ∷ cs))
+    ∙ ap (λ ds. read len (AfterInst (with_inst (conns_of i ds))) U) (append_assoc i.conns (c ∷ []) (d ∷ cs))
 
 -- an item with more instances
 abbrev pub more_insts_of : InInsts → List TInst → InInsts

@@ -18,17 +18,15 @@ item_read : (len : ℕ) (m : InModule) (i : Item) (T U : List Token) → item i 
 item_read len m (Declaration d) T U (V, is, close) = decl_item len m d T V U is close
 item_read len m (Insts master is) T U (V, a, (W, are, close)) = insts_item len m master is T V W U a are close
 
--- a module with more items
-abbrev pub with_items : InModule → List Item → InModule
-with_items m is = record {
+-- a module with these items, and with more items
+abbrev pub items_of : InModule → List Item → InModule
+items_of m is = record {
   modules = m.modules;
-  current = record {
-    name = m.current.name;
-    marked = m.current.marked;
-    header = m.current.header;
-    items = m.current.items ++ is;
-  };
+  current = record { name = m.current.name; marked = m.current.marked; header = m.current.header; items = is };
 }
+
+abbrev pub with_items : InModule → List Item → InModule
+with_items m is = items_of m (m.current.items ++ is)
 
 items_read : (len : ℕ) (m : InModule) (is : List Item) (T U : List Token) → items is T U
     → read len (InItems m) T ≡ read len (InItems (with_items m is)) U
@@ -36,7 +34,7 @@ items_read len m [] T U same = rw (same, append-nil m.current.items) refl
 items_read len m (i ∷ is) T U (V, one, more) =
     item_read len m i T V one
     ∙ items_read len (with_item m i) is V U more
-    ∙ ap (λ ks. read len (InItems (with_items (record { modules = m.modules; current = record { name = m.current.name; marked = m.current.marked; header = m.current.header; items = [] } }) ks)) U) (append_assoc m.current.items (i ∷ []) is)
+    ∙ ap (λ ks. read len (InItems (items_of m ks)) U) (append_assoc m.current.items (i ∷ []) is)
 
 -- the modules so far and one more
 abbrev pub with_module : SoFar → TModule → SoFar
