@@ -73,7 +73,7 @@ impl Reader<'_> {
     }
 
     /// `[ expr ]`, up to what ends the connection.
-    #[tactic(auto, using(crate::proofs::Passing::no_conn, crate::proofs::Passing::conn_by_order, crate::proofs::Passing::end_by_order))]
+    #[tactic(auto, using(crate::proofs::ByOrder::by_order))]
     fn expr_by_order(&mut self) -> Result<List<Part>, ParseFault>
         requires { IsNext (is_mark dot) self.old.rest.now ≡ false }
         ensures read { (i : InInst)

@@ -33,8 +33,8 @@ impl Reader<'_> {
     /// `"[" NUM ":" NUM "]"`, after the left bracket.
     fn range(&mut self) -> Result<Span, ParseFault>
         ensures read { (for : DeclFor) (d : Option Dir) (wire : Bool)
-            → Reads self.old.len (RangeLeft for (decl_of d wire None [])) (λ s. DeclName for (decl_of d wire (Some s) []))
-            self.old.rest.now self.new.rest.now result }
+            → Reads self.old.len (RangeLeft for (decl_of d wire None []))
+            (λ s. DeclName for (decl_of d wire (Some s) [])) self.old.rest.now self.new.rest.now result }
         ensures shorter { OnOk result (length self.new.rest.now < length self.old.rest.now) }
         ensures len { self.new.len ≡ self.old.len }
     {

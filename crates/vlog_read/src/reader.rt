@@ -67,7 +67,8 @@ impl Reader<'_> {
 
     /// This mark, which has to be next.
     pub fn mark(&mut self, mark: u8) -> Result<(), ParseFault>
-        ensures taken { Takes (is_mark mark) (λ _. One (Mark mark)) self.old.len self.old.rest.now self.new.rest.now result }
+        ensures taken { Takes (is_mark mark) (λ _. One (Mark mark)) self.old.len self.old.rest.now self.new.rest.now
+            result }
         ensures len { self.new.len ≡ self.old.len }
     {
         if self.takes(mark) {

@@ -20,11 +20,7 @@ pub fn fault_at(alloc: Global, token: &Token) -> ParseFault
     match token.kind {
         TokenKind::Reserved(row) => at_word(alloc, token.at, row),
         TokenKind::Mark(byte) => at_mark(alloc, token.at, byte),
-        TokenKind::Ident(_) => ParseFault::Unexpected { at: token.at },
-        TokenKind::Cell => ParseFault::Unexpected { at: token.at },
-        TokenKind::EndCell => ParseFault::Unexpected { at: token.at },
-        TokenKind::Number(_) => ParseFault::Unexpected { at: token.at },
-        TokenKind::Literal { .. } => ParseFault::Unexpected { at: token.at },
+        _ => ParseFault::Unexpected { at: token.at },
     }
 }
 
@@ -36,7 +32,7 @@ fn at_word(alloc: Global, at: u32, row: u16) -> ParseFault
     if word::is_used(row) {
         return ParseFault::Unexpected { at };
     }
-    if row >= 124 {
+    if row >= word::COUNT {
         return ParseFault::Unexpected { at };
     }
     unsupported(alloc, at, reserved_words().at(row))

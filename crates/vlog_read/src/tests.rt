@@ -152,7 +152,10 @@ fn a_sentence_that_is_cut_ends_too_early(rt: HostRuntime) -> Result<(), Fail> {
             for token in before {
                 let cut = &sentence[..(token.end as usize).min(sentence.len())];
                 let expected = format!(in alloc; "unexpected @{}", token.end)?;
-                assert_eq!(rt; from_utf8(shown(alloc, cut)?.as_slice())?, expected.as_str());
+                assert_eq!(rt;
+                    from_utf8(shown(alloc, cut)?.as_slice())?,
+                    expected.as_str()
+                );
             }
         }
     }
@@ -164,7 +167,10 @@ fn braces_nest_to_any_depth(rt: HostRuntime) -> Result<(), Fail> {
     let alloc = rt.alloc();
     let mut bytes = b"module t; i u(".to_vec(alloc)?;
     bytes.extend_from_slice([b'{'; 10_000].as_slice())?;
-    assert_eq!(rt; from_utf8(shown(alloc, bytes.as_slice())?.as_slice())?, "unexpected @10014");
+    assert_eq!(rt;
+        from_utf8(shown(alloc, bytes.as_slice())?.as_slice())?,
+        "unexpected @10014"
+    );
     bytes.push(b'a')?;
     bytes.extend_from_slice([b'}'; 10_000].as_slice())?;
     bytes.extend_from_slice(b"); endmodule")?;
@@ -184,6 +190,9 @@ fn a_row_past_the_reserved_words_is_no_word(rt: HostRuntime) -> Result<(), Fail>
         end: 7,
     })?;
     let read = Tokens { items, len: 9 };
-    assert_eq!(rt; from_utf8(shown_tokens(rt.alloc(), &read)?.as_slice())?, "unexpected @3");
+    assert_eq!(rt;
+        from_utf8(shown_tokens(rt.alloc(), &read)?.as_slice())?,
+        "unexpected @3"
+    );
     Ok(())
 }

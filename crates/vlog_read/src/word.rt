@@ -14,6 +14,9 @@ pub const OUTPUT: u16 = 67;
 
 pub const WIRE: u16 = 120;
 
+/// How many rows the table has.
+pub const COUNT: u16 = 124;
+
 /// Whether the grammar uses the word of a row.
 pub fn is_used(row: u16) -> bool
     ensures { result ≡ is_used_word row }
