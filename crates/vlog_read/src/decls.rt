@@ -1,17 +1,16 @@
-ghost use Rattle.std.specs.Prelude.{◌≡◌, ◌<◌, ◌≤◌, [], ◌∷◌, Bool, true, false, Option, Some, None, List, length, OnOk};
+ghost use Rattle.std.specs.Prelude.{◌≡◌, ◌<◌, ◌≤◌, [], Bool, true, false, Option, Some, None, List, length, OnOk};
 ghost use Rattle.emh_base.specs.declared.plain.Dir.{Dir};
 ghost use Rattle.vlog_read.specs.declared.tree.At.{At};
 ghost use Rattle.vlog_read.specs.declared.tree.Decl.{Decl};
 ghost use Rattle.vlog_read.specs.declared.tree.Span.{Span};
-ghost use Rattle.vlog_read.specs.declared.tree.Item.TheVariants.{Decl as Declaration};
 ghost use Rattle.vlog_read.specs.Words.{comma};
-ghost use Rattle.vlog_read.specs.Machine.State.{DeclFor, InModule, SoFar, ForHeader, ForItem, AfterHeaderName, AfterDir, AfterWire, RangeLeft, DeclName, AfterDeclName, InItems, decl_of, with_item};
+ghost use Rattle.vlog_read.specs.Machine.State.{DeclFor, InModule, SoFar, ForItem, AfterHeaderName, AfterDir, AfterWire, RangeLeft, DeclName, AfterDeclName, decl_of};
 ghost use Rattle.vlog_read.specs.Machine.Step.{is_mark, read};
 ghost use Rattle.vlog_read.specs.Machine.Reads.{IsNext, Reads};
 
 use crate::fault::ParseFault;
 use crate::reader::Reader;
-use crate::tree::{At, Decl, Item, Span};
+use crate::tree::{At, Decl, Span};
 use crate::word;
 use emh_base::{Dir, List, Range};
 

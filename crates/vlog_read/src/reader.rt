@@ -1,7 +1,6 @@
-ghost use Rattle.std.specs.Prelude.{◌≡◌, ℕ, ◌<◌, ◌↔◌, Bool, true, false, ◌==◌, [], length, IsTrue, OnOk};
+ghost use Rattle.std.specs.Prelude.{◌≡◌, ◌<◌, Bool, true, false, ◌==◌, []};
 ghost use Rattle.vlog_lex.specs.declared.token.TokenKind.{TokenKind};
 ghost use Rattle.vlog_lex.specs.declared.token.TokenKind.TheVariants.{Mark, Number, Reserved};
-ghost use Rattle.vlog_read.specs.Words.{right_parenthesis, comma};
 ghost use Rattle.vlog_read.specs.Grammar.{One, first_at, name, direction};
 ghost use Rattle.vlog_read.specs.Machine.Step.{is_mark, is_word, is_name, is_number, is_literal, is_dir, ends_conn};
 ghost use Rattle.vlog_read.specs.Machine.Reads.{IsNext, Took, TookSome};
@@ -15,8 +14,8 @@ use emh_base::{Dir, TryCopy};
 use std::alloc::Global;
 use vlog_lex::{Token, TokenKind};
 
-/// Reads the tokens of a file one after the other. Its methods that begin with `takes` take the next token only if it
-/// is the one in question; the others refuse any other token.
+/// Reads the tokens of a file one after the other. A method that begins with `takes` leaves any other token for what
+/// comes next; one that is named after what it reads answers the fault at it.
 #[derive(Drop)]
 pub struct Reader<'a> {
     pub alloc: Global,

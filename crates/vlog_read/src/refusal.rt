@@ -1,8 +1,7 @@
-ghost use Rattle.std.specs.Prelude.{◌≡◌, Bool, true};
+ghost use Rattle.std.specs.Prelude.{◌≡◌, true};
 ghost use Rattle.emh_base.specs.Name.{IsName};
 ghost use Rattle.vlog_lex.specs.declared.token.TokenKind.TheVariants.{Mark, Reserved};
 ghost use Rattle.vlog_read.specs.declared.fault.ParseFault.TheVariants.{Unsupported};
-ghost use Rattle.vlog_read.specs.Words.{is_used_word, is_unread_mark};
 ghost use Rattle.vlog_read.specs.Sentence.{fault_of, fault_at};
 ghost use Rattle.vlog_read.specs.Machine.Reads.{is_real};
 
