@@ -1,5 +1,7 @@
 pub mod Words
 pub mod Passing
+pub mod Reserved
+pub mod ByOrder
 pub mod Spelled
 pub mod Left
 pub mod Sentences
