@@ -1,5 +1,5 @@
 -- In a sound table each text of a path, a net bit or a pin is of one of them only.
-use Rattle.std.proofs.Common.{◌≡◌, ◌≢◌, ℕ, zero, suc, ◌+◌, ◌<◌, ◌≤◌, ◌==◌, ◌^◌, Bool, true, false, List, [], ◌∷◌, ◌++◌, map, find, take, drop, reverse, length, get_or, slice_get, Option, Some, None, option_and_then, IsSome, All, AllPairs, bytes_eq, codes, refl, sym, ap, ◌∙◌, subst, arith, ⊎_elim}
+use Rattle.std.proofs.Common.{◌≡◌, ◌≢◌, ℕ, ◌+◌, ◌<◌, ◌≤◌, ◌==◌, Bool, List, [], ◌∷◌, ◌++◌, map, find, take, drop, reverse, length, get_or, slice_get, Option, Some, None, All, bytes_eq, codes, refl, sym, ap, ◌∙◌, subst, arith, ⊎_elim}
 use Rattle.std.specs.List.{position_or_len, IsDistinct}
 use Rattle.std.proofs.lemmas.Bool.{cases_lt}
 use Rattle.std.proofs.lemmas.Option.{slice_get_within, get_or_from_slice_get}
@@ -18,7 +18,7 @@ use Rattle.emh_base.specs.declared.plain.PInst.{PInst}
 use Rattle.emh_base.specs.declared.plain.PModule.{PModule}
 use Rattle.emh_base.specs.declared.plain.Plain.{Plain}
 use Rattle.emh_base.specs.Name.{IsName}
-use Rattle.emh_base.specs.Text.{path_text, bit_text, pin_text, index_text}
+use Rattle.emh_base.specs.Text.{bit_text, pin_text, index_text}
 use Rattle.emh_base.proofs.TextLemmas.{AreNames, names_and, path_text_injective, bit_text_same, pin_text_same, path_text_bit_text, path_text_pin_text, bit_text_pin_text, path_text_no_tie, bit_text_no_tie, pin_text_no_tie, index_text_injective}
 use Rattle.flatten_rules.specs.Lookup.{module_of, net_of, inst_of, width, width_of}
 use Rattle.flatten_rules.specs.Unfolding.{module_up, inst_up}
@@ -66,22 +66,24 @@ module _ (M : Plain) (m : PModule) (sound : IsSoundModule M m) where
   net-place net at =
       let front : List (List ℕ) = map (λ (net : PNet). net.name) m.nets in
       let back : List (List ℕ) = map (λ (inst : PInst). inst.name) m.insts in
-      let within : at.place < length front = omega (arith, at.within, length-map m.nets (λ (net : PNet). net.name)) in
-      (omega (arith, within, length-append front back),
-      get_or_append_left front back [] at.place within
-      ∙ get_or-map (λ (net : PNet). net.name) m.nets at.place net [] at.within
-      ∙ ap (λ (net : PNet). net.name) (at.at net))
+      let within : at.place < length front = omega (arith, at.within, length-map m.nets (λ (net : PNet). net.name)) in (
+        omega (arith, within, length-append front back),
+        get_or_append_left front back [] at.place within
+            ∙ get_or-map (λ (net : PNet). net.name) m.nets at.place net [] at.within
+            ∙ ap (λ (net : PNet). net.name) (at.at net),
+      )
 
   inst-place : (inst : PInst) (at : Place m.insts inst) → (length m.nets + at.place < length all-names) × (get_or all-names (length m.nets + at.place) [] ≡ inst.name)
   inst-place inst at =
       let front : List (List ℕ) = map (λ (net : PNet). net.name) m.nets in
       let back : List (List ℕ) = map (λ (inst : PInst). inst.name) m.insts in
-      let many : length front ≡ length m.nets = length-map m.nets (λ (net : PNet). net.name) in
-      (omega (arith, at.within, many, length-map m.insts (λ (inst : PInst). inst.name), length-append front back),
-      ap (λ n. get_or (front ++ back) (n + at.place) []) (sym many)
-      ∙ get_or-append-add front back at.place []
-      ∙ get_or-map (λ (inst : PInst). inst.name) m.insts at.place inst [] at.within
-      ∙ ap (λ (inst : PInst). inst.name) (at.at inst))
+      let many : length front ≡ length m.nets = length-map m.nets (λ (net : PNet). net.name) in (
+        omega (arith, at.within, many, length-map m.insts (λ (inst : PInst). inst.name), length-append front back),
+        ap (λ n. get_or (front ++ back) (n + at.place) []) (sym many)
+            ∙ get_or-append-add front back at.place []
+            ∙ get_or-map (λ (inst : PInst). inst.name) m.insts at.place inst [] at.within
+            ∙ ap (λ (inst : PInst). inst.name) (at.at inst),
+      )
 
   -- a net is told by its name
   one_net : (a b : NetId) (x y : PNet) → net_of m a ≡ Some x → net_of m b ≡ Some y → x.name ≡ y.name → a ≡ b
@@ -124,9 +126,10 @@ module _ (M : Plain) (m : PModule) (sound : IsSoundModule M m) where
 
 last-apart : {X : Type 0} (xs ys : List X) (x y : X) → xs ++ x ∷ [] ≡ ys ++ y ∷ [] → (xs ≡ ys) × (x ≡ y)
 last-apart xs ys x y same =
-    let long : length xs ≡ length ys = omega (arith, ap length same, length_push xs x, length_push ys y) in
-    (sym (take-append_seam xs (x ∷ [])) ∙ ap (λ n. take n (xs ++ x ∷ [])) long ∙ ap (take (length ys)) same ∙ take-append_seam ys (y ∷ []),
-    sym (get_or_push xs x x (length xs) refl) ∙ ap (λ n. get_or (xs ++ x ∷ []) n x) long ∙ ap (λ zs. get_or zs (length ys) x) same ∙ get_or_push ys y x (length ys) refl)
+    let long : length xs ≡ length ys = omega (arith, ap length same, length_push xs x, length_push ys y) in (
+      sym (take-append_seam xs (x ∷ [])) ∙ ap (λ n. take n (xs ++ x ∷ [])) long ∙ ap (take (length ys)) same ∙ take-append_seam ys (y ∷ []),
+      sym (get_or_push xs x x (length xs) refl) ∙ ap (λ n. get_or (xs ++ x ∷ []) n x) long ∙ ap (λ zs. get_or zs (length ys) x) same ∙ get_or_push ys y x (length ys) refl,
+    )
 
 no-last : {X : Type 0} (xs : List X) (x : X) → xs ++ x ∷ [] ≡ [] → ⊥
 no-last xs x same = absurd (omega (arith, ap length same, length_push xs x))

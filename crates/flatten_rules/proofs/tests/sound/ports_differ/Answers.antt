@@ -1,4 +1,4 @@
-use Rattle.std.proofs.Common.{◌≡◌, ◌≢◌, ℕ, List, AllPairs, take, get_or, subst, arith}
+use Rattle.std.proofs.Common.{◌≢◌, ℕ, List, AllPairs, take, get_or, subst, arith}
 use Rattle.std.proofs.lemmas.List.{take_more, take_all}
 use Rattle.std.proofs.lemmas.List.Quantifiers.{all_pairs_push}
 use Rattle.emh_base.specs.declared.plain.PPort.{PPort}
