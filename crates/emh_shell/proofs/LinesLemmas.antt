@@ -1,7 +1,6 @@
 -- The report of pins, which is told by the block domain, is the lines of the occurrences in order.
-use Rattle.std.proofs.Common.{◌≡◌, ℕ, ◌==◌, Bool, true, false, cond, List, [], ◌∷◌, ◌++◌, reverse, map, find, Option, Some, None, refl, sym, ap, ◌∙◌}
-use Rattle.std.specs.List.{flat_map, filter, range_with_len}
-use Rattle.std.proofs.lemmas.Bool.Decides.{nat_tests}
+use Rattle.std.proofs.Common.{◌≡◌, ℕ, Bool, true, false, cond, List, [], ◌∷◌, ◌++◌, reverse, Option, Some, None, refl, ap, ◌∙◌}
+use Rattle.std.specs.List.{flat_map, filter}
 use Rattle.std.proofs.lemmas.List.Folds.{flat_map-map}
 use Rattle.std.proofs.lemmas.List.Concat.{flat_map-append}
 use Rattle.emh_base.specs.declared.ids.ModId.{ModId}
@@ -11,12 +10,11 @@ use Rattle.emh_base.specs.declared.plain.PNet.{PNet}
 use Rattle.emh_base.specs.declared.plain.PPort.{PPort}
 use Rattle.emh_base.specs.declared.plain.PModule.{PModule}
 use Rattle.emh_base.specs.declared.plain.Plain.{Plain}
-use Rattle.flatten_rules.specs.Lookup.{module_of, net_of, width_of}
+use Rattle.flatten_rules.specs.Lookup.{module_of, net_of}
 use Rattle.flatten_rules.specs.Unfolding.{Occurrence, occurrences}
-use Rattle.flatten_rules.specs.Root.{pin_root}
 use Rattle.flatten_rules.specs.Domains.{Pin, is_leaf, offsets, port_net, ports_of, pins_of_port}
 use Rattle.flatten_rules.proofs.Walks.{id-of_net}
-use Rattle.emh_shell.specs.Pins.{bit_line, pin_line, pins_text}
+use Rattle.emh_shell.specs.Pins.{pin_line, pins_text}
 use Rattle.emh_shell.specs.Lines.{net_line, port_lines, leaf_lines, occurrence_lines}
 
 pub flat_map-flat_map : {X Y Z : Type 0} (f : Y → List Z) (g : X → List Y) (xs : List X) → flat_map f (flat_map g xs) ≡ flat_map (λ x. flat_map f (g x)) xs

@@ -1,7 +1,7 @@
 -- The numbers of names: where names stand among the names of a module.
-use Rattle.std.proofs.Common.{◌≡◌, ◌≢◌, ℕ, zero, suc, ◌+◌, ◌<◌, Bool, true, false, cond, not, List, [], ◌∷◌, ◌++◌, map, find, length, get_or, IsSome, position, unwrap_or, refl, sym, ap, ◌∙◌, subst, arith, bytes_eq, nat_lt, Contains}
+use Rattle.std.proofs.Common.{◌≡◌, ◌≢◌, ℕ, zero, suc, ◌+◌, ◌<◌, Bool, true, false, List, [], ◌∷◌, find, length, get_or, IsSome, refl, sym, ap, ◌∙◌, arith, bytes_eq, Contains}
 use Rattle.std.specs.List.{position_or_len, IsDistinct}
-use Rattle.std.proofs.lemmas.Bool.{false≢true, lt-ltb}
+use Rattle.std.proofs.lemmas.Bool.{lt-ltb}
 use Rattle.std.proofs.lemmas.Slice.Eq.{bytes_eq-Decides}
 use Rattle.std.proofs.lemmas.Option.{slice_get-get_or}
 use Rattle.std.proofs.lemmas.List.{get_or_default}

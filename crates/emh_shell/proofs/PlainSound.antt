@@ -12,7 +12,6 @@ use Rattle.std.proofs.lemmas.Map.Made.{AllPairs-from_IsDistinct, IsDistinct-from
 use Rattle.emh_base.specs.declared.ids.NetId.{NetId}
 use Rattle.emh_base.specs.declared.plain.Src.{Src}
 use Rattle.emh_base.specs.declared.plain.Src.TheVariants.{Bit}
-use Rattle.emh_base.specs.declared.plain.Conn.{Conn}
 use Rattle.emh_base.specs.declared.plain.PNet.{PNet}
 use Rattle.emh_base.specs.declared.plain.PPort.{PPort}
 use Rattle.emh_base.specs.declared.plain.PInst.{PInst}
@@ -34,7 +33,7 @@ use Rattle.vlog_plain.specs.Netlist.{net_names, module_named, IsInstance, IsModu
 use Rattle.vlog_plain.specs.Table.{numbered, number_of, net_of, port_of, conn_of, inst_of, module_of, table}
 use Rattle.vlog_plain.specs.PlainFile.{IsPlainFile}
 use Rattle.vlog_plain.proofs.PlaceLemmas.{find_found}
-use Rattle.emh_shell.proofs.PlainNames.{some-passes, number-is_place, number-below, number-at_name, number-own, number-once}
+use Rattle.emh_shell.proofs.PlainNames.{some-passes, number-is_place, number-below, number-own, number-once}
 
 -- Items that are numbered by their places.
 
@@ -289,9 +288,10 @@ module _ (n : Netlist) (is : IsNetlist n) (k : ℕ) (leaf : Bool) (m : Module) (
     fits-port name there (Some pin) is =
         let on : Contains (net_names m) pin.net = All-find (λ (p : PinOn). Contains (net_names m) p.net) (λ (p : PinOn). bytes_eq name p.port) i.pins pin one.nets_are_there is in
         let source : Src = Bit (record { 0 = number_of (net_names m) pin.net }) 0 in
-        let width = one-bit (all_modules n) leaf k m pin.net on in
-        (sym (one-bit (all_modules n) t.0 place t.1 name there),
-        All-cons (IsSource (module_of (all_modules n) leaf k m)) source [] (omega (arith, width)) (All-nil (IsSource (module_of (all_modules n) leaf k m))))
+        let width = one-bit (all_modules n) leaf k m pin.net on in (
+          sym (one-bit (all_modules n) t.0 place t.1 name there),
+          All-cons (IsSource (module_of (all_modules n) leaf k m)) source [] (omega (arith, width)) (All-nil (IsSource (module_of (all_modules n) leaf k m))),
+        )
 
     fits-ports : (head : List (List ℕ)) → All (Contains (net_names t.1)) head
         → FitPorts (module_of (all_modules n) leaf k m) (made (all_modules n) place t) (map (port_of t.1) head) (map (λ name. conn_of (net_names m) (find (λ (p : PinOn). bytes_eq name p.port) i.pins)) head)
