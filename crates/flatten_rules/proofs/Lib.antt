@@ -7,3 +7,5 @@ pub mod TextLaws
 pub mod Counted
 pub mod Within
 pub mod Rising
+pub mod Following
+pub mod Cycling

@@ -26,7 +26,7 @@ use Rattle.flatten_rules.specs.Domains.{NetBit}
 use Rattle.flatten_rules.specs.Sound.{IsSound, IsSoundModule, IsAllowed}
 use Rattle.flatten_rules.specs.Texts.{inst_name, names_up, net_up, net_bit_text, port_bit_text, Named, PathAt, BitAt, PinAt, IsThere, text_of, HasNames, TextsDiffer, EachTextOnce}
 use Rattle.flatten_rules.proofs.Sound.{All-find, sound-module}
-use Rattle.flatten_rules.proofs.Walks.{Step, last_step, up-own, id-of_net, find-passes, some-there, and_then-some}
+use Rattle.flatten_rules.proofs.Walks.{Step, last_step, up-own, id-of_net, find-passes, some-there, and_then-some, same-some}
 
 -- An item that is found stands at a place.
 record Place {X : Type 0} (xs : List X) (x : X) : Type 0 where
@@ -66,22 +66,24 @@ module _ (M : Plain) (m : PModule) (sound : IsSoundModule M m) where
   net-place net at =
       let front : List (List ℕ) = map (λ (net : PNet). net.name) m.nets in
       let back : List (List ℕ) = map (λ (inst : PInst). inst.name) m.insts in
-      let within : at.place < length front = omega (arith, at.within, length-map m.nets (λ (net : PNet). net.name)) in
-      (omega (arith, within, length-append front back),
-      get_or_append_left front back [] at.place within
-      ∙ get_or-map (λ (net : PNet). net.name) m.nets at.place net [] at.within
-      ∙ ap (λ (net : PNet). net.name) (at.at net))
+      let within : at.place < length front = omega (arith, at.within, length-map m.nets (λ (net : PNet). net.name)) in (
+        omega (arith, within, length-append front back),
+        get_or_append_left front back [] at.place within
+            ∙ get_or-map (λ (net : PNet). net.name) m.nets at.place net [] at.within
+            ∙ ap (λ (net : PNet). net.name) (at.at net),
+      )
 
   inst-place : (inst : PInst) (at : Place m.insts inst) → (length m.nets + at.place < length all-names) × (get_or all-names (length m.nets + at.place) [] ≡ inst.name)
   inst-place inst at =
       let front : List (List ℕ) = map (λ (net : PNet). net.name) m.nets in
       let back : List (List ℕ) = map (λ (inst : PInst). inst.name) m.insts in
-      let many : length front ≡ length m.nets = length-map m.nets (λ (net : PNet). net.name) in
-      (omega (arith, at.within, many, length-map m.insts (λ (inst : PInst). inst.name), length-append front back),
-      ap (λ n. get_or (front ++ back) (n + at.place) []) (sym many)
-      ∙ get_or-append-add front back at.place []
-      ∙ get_or-map (λ (inst : PInst). inst.name) m.insts at.place inst [] at.within
-      ∙ ap (λ (inst : PInst). inst.name) (at.at inst))
+      let many : length front ≡ length m.nets = length-map m.nets (λ (net : PNet). net.name) in (
+        omega (arith, at.within, many, length-map m.insts (λ (inst : PInst). inst.name), length-append front back),
+        ap (λ n. get_or (front ++ back) (n + at.place) []) (sym many)
+            ∙ get_or-append-add front back at.place []
+            ∙ get_or-map (λ (inst : PInst). inst.name) m.insts at.place inst [] at.within
+            ∙ ap (λ (inst : PInst). inst.name) (at.at inst),
+      )
 
   -- a net is told by its name
   one_net : (a b : NetId) (x y : PNet) → net_of m a ≡ Some x → net_of m b ≡ Some y → x.name ≡ y.name → a ≡ b
@@ -124,15 +126,13 @@ module _ (M : Plain) (m : PModule) (sound : IsSoundModule M m) where
 
 last-apart : {X : Type 0} (xs ys : List X) (x y : X) → xs ++ x ∷ [] ≡ ys ++ y ∷ [] → (xs ≡ ys) × (x ≡ y)
 last-apart xs ys x y same =
-    let long : length xs ≡ length ys = omega (arith, ap length same, length_push xs x, length_push ys y) in
-    (sym (take-append_seam xs (x ∷ [])) ∙ ap (λ n. take n (xs ++ x ∷ [])) long ∙ ap (take (length ys)) same ∙ take-append_seam ys (y ∷ []),
-    sym (get_or_push xs x x (length xs) refl) ∙ ap (λ n. get_or (xs ++ x ∷ []) n x) long ∙ ap (λ zs. get_or zs (length ys) x) same ∙ get_or_push ys y x (length ys) refl)
+    let long : length xs ≡ length ys = omega (arith, ap length same, length_push xs x, length_push ys y) in (
+      sym (take-append_seam xs (x ∷ [])) ∙ ap (λ n. take n (xs ++ x ∷ [])) long ∙ ap (take (length ys)) same ∙ take-append_seam ys (y ∷ []),
+      sym (get_or_push xs x x (length xs) refl) ∙ ap (λ n. get_or (xs ++ x ∷ []) n x) long ∙ ap (λ zs. get_or zs (length ys) x) same ∙ get_or_push ys y x (length ys) refl,
+    )
 
 no-last : {X : Type 0} (xs : List X) (x : X) → xs ++ x ∷ [] ≡ [] → ⊥
 no-last xs x same = absurd (omega (arith, ap length same, length_push xs x))
-
-same-some : {X : Type 0} (o : Option X) (x y : X) → o ≡ Some x → o ≡ Some y → x ≡ y
-same-some o x y a b = let both : Some x ≡ Some y = sym a ∙ b in cc
 
 module _ (M : Plain) (top : ModId) (sound : IsSound M) (have : All HasNames M.modules) where
   has-names : (m : PModule) → module_of M m.id ≡ Some m → HasNames m

@@ -2,13 +2,17 @@
 //! its leaf pins, its limits.
 #![tactic(auto)]
 
+mod cycle;
 mod extent;
 mod laws;
 mod limits;
 mod lookup;
 mod numbered;
+mod rank;
+mod reach;
 mod root;
 
+pub use cycle::first_on_cycle;
 pub use laws::{each_text_once, two_level_unfolds};
 pub use limits::is_within;
 pub use lookup::{find, module_of, net_of, place_of_module, port_of, width};
