@@ -1,7 +1,7 @@
 -- Walks of instances in a table, as walks in the graph of the modules' places.
-use Rattle.std.proofs.Common.{◌≡◌, ℕ, ◌+◌, ◌<◌, ◌≤◌, ◌==◌, ◌⊎◌, inl, inr, zero, suc, Bool, true, false, cond, List, [], ◌∷◌, ◌++◌, length, map, take, get_or, slice_get, find, position, filter_map, option_to_list, Option, Some, None, IsSome, IsSomeAnd, IfSome, All, AllPairs, Contains, refl, sym, ap, ◌∙◌, subst, arith, ⊎_elim}
+use Rattle.std.proofs.Common.{◌≡◌, ℕ, ◌+◌, ◌<◌, ◌≤◌, ◌==◌, ◌⊎◌, inl, inr, zero, suc, Bool, true, false, cond, List, [], ◌∷◌, ◌++◌, length, map, take, get_or, slice_get, find, position, filter_map, option_to_list, is_some, Option, Some, None, IsSome, IsSomeAnd, IfSome, All, AllPairs, Contains, refl, sym, ap, ◌∙◌, subst, arith, ⊎_elim}
 use Rattle.std.specs.List.{position_or_len, cons_option}
-use Rattle.std.proofs.lemmas.Bool.{cases_lt, lt-ltb}
+use Rattle.std.proofs.lemmas.Bool.{cases_lt, lt-ltb, true≢false}
 use Rattle.std.proofs.lemmas.Option.{slice_get_within, get_or_from_slice_get, slice_get-get_or}
 use Rattle.std.proofs.lemmas.List.{length-map, get_or-map, get_or_default, take_more, append-nil}
 use Rattle.std.proofs.lemmas.List.Elements.{All-contains, All-nil, All-cons, Contains-append_cases, Contains-append_right, Contains-append_left, Contains-get_or, filter_map-append}
@@ -15,8 +15,8 @@ use Rattle.flatten_rules.specs.Lookup.{module_of, place_of, inst_of}
 use Rattle.flatten_rules.specs.Unfolding.{module_up}
 use Rattle.flatten_rules.specs.Graph.{next, IsGraph, Leads, Reaches, IsFirstReturning, places_of, graph_of}
 use Rattle.flatten_rules.specs.Cycle.{OnCycle, IsFirstOnCycle}
-use Rattle.flatten_rules.proofs.Places.{found-at_place}
-use Rattle.flatten_rules.proofs.Walks.{Step, last_step, find-own, same-some}
+use Rattle.flatten_rules.proofs.Places.{item-there, found-at_place}
+use Rattle.flatten_rules.proofs.Walks.{Step, last_step, up-own, find-own, same-some}
 
 -- one more item
 pub filter_map-more : {X Y : Type 0} (h : X → Option Y) (xs : List X) (i : ℕ) (x : X) → i < length xs → x ≡ get_or xs i x → filter_map h (take (i + 1) xs) ≡ filter_map h (take i xs) ++ option_to_list (h x)
@@ -65,11 +65,6 @@ kept-from h (z ∷ xs) y has = ⊎_elim
     let from = kept-from h xs y behind in
     record { place = suc from.place; item = from.item; within = omega (arith, from.within); at = from.at; gives = from.gives })
     (contains-split (h z) (filter_map h xs) y has)
-
-pub item-there : {X : Type 0} (xs : List X) (k : ℕ) → k < length xs → (x : X) × (slice_get xs k ≡ Some x)
-item-there [] k within = absurd (omega arith)
-item-there (x ∷ xs) zero within = (x, refl)
-item-there (x ∷ xs) (suc k) within = item-there xs k (omega arith)
 
 -- The place of a module in a table.
 some-and : {X : Type 0} (o : Option X) (P : X → Type 0) → IsSomeAnd o P → (x : X) × (o ≡ Some x) × P x
@@ -201,3 +196,16 @@ module _ (M : Plain) (rise : AllPairs (λ (a b : PModule). a.id.0 < b.id.0) M.mo
         rw there.1 (on_cycle-from_reaches insts a there.0 there.1 first.2),
         λ k m low high at cycle. first.3 k low high (reaches-from_on_cycle k m at cycle),
       )
+
+-- no module at all is on a cycle where none is from the first place on
+pub no_cycle-from_none : (M : Plain) (first : Option ℕ) → IsFirstOnCycle M 0 first → is_some first ≡ false → (m : PModule) → OnCycle M m → ⊥
+no_cycle-from_none M None none is m cycle =
+    let place = place-at M m.id m (up-own M m.id (cycle.0 ∷ cycle.1) m cycle.2) in
+    none place.0 m (omega arith) (slice_get_within M.modules place.0 m place.2) place.2 cycle
+no_cycle-from_none M (Some k) first is m cycle = absurd (true≢false is)
+
+pub none-from_no_cycle : (M : Plain) (first : Option ℕ) → IsFirstOnCycle M 0 first → ((m : PModule) → OnCycle M m → ⊥) → is_some first ≡ false
+none-from_no_cycle M None none no_cycle = refl
+none-from_no_cycle M (Some k) first no_cycle =
+    let there = some-and (slice_get M.modules k) (OnCycle M) first.1 in
+    absurd (no_cycle there.0 there.2)

@@ -53,7 +53,7 @@ marked-below order flags at (Some node) marked is =
     let here : get_or order at node ≡ node = get_or_from_slice_get order at node node (sym is) in
     marked.below node (any-from_contains node order (at, within, here))
 
-or-false : (b : Bool) → (b || false) ≡ b
+pub or-false : (b : Bool) → (b || false) ≡ b
 or-false true = refl
 or-false false = refl
 

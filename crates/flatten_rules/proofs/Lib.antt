@@ -9,3 +9,4 @@ pub mod Within
 pub mod Rising
 pub mod Following
 pub mod Cycling
+pub mod Checking

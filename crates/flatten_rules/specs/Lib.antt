@@ -7,6 +7,7 @@ pub mod Cycle
 pub mod Graph
 pub mod Reach
 pub mod Sound
+pub mod Checks
 pub mod Order
 pub mod Limits
 pub mod Extent

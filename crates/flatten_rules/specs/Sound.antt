@@ -19,10 +19,6 @@ abbrev pub IsAllowed : Option Range → Type 0
 IsAllowed None = Unit {0}
 IsAllowed (Some range) = (range.left ≤ 65535) × (range.right ≤ 65535) × (width (Some range) ≤ 4096)
 
--- what a look-up of a module's nets rests on: their ids rise, and their ranges are allowed
-abbrev pub HasNets : PModule → Type 0
-HasNets m = AllPairs (λ (a b : PNet). a.id.0 < b.id.0) m.nets × All (λ (net : PNet). IsAllowed net.range) m.nets
-
 -- a source is a tie, or a bit that a net of the module has
 abbrev pub IsSource : PModule → Src → Type 0
 IsSource m Tie0 = Unit {0}
