@@ -2,6 +2,8 @@ ghost use Rattle.std.specs.Prelude.{◌<◌, IsTrue, All};
 ghost use Rattle.emh_base.specs.declared.plain.PInst.{PInst};
 ghost use Rattle.flatten_rules.specs.Order.{MastersFirst};
 
+mod cycle;
+mod sound;
 mod tables;
 
 use crate::{is_sound, is_within};
