@@ -71,10 +71,10 @@ some-and : {X : Type 0} (o : Option X) (P : X → Type 0) → IsSomeAnd o P → 
 some-and None P some = absurd some
 some-and (Some x) P some = (x, refl, some)
 
-module-at : (M : Plain) (id : ModId) (k : ℕ) → place_of M id ≡ Some k → (m : PModule) × (slice_get M.modules k ≡ Some m) × (module_of M id ≡ Some m)
+pub module-at : (M : Plain) (id : ModId) (k : ℕ) → place_of M id ≡ Some k → (m : PModule) × (slice_get M.modules k ≡ Some m) × (module_of M id ≡ Some m)
 module-at M id k at = some-and (slice_get M.modules k) (λ m. module_of M id ≡ Some m) (found-at_place (λ m. m.id.0 == id.0) M.modules (Some k) (sym at))
 
-place-at : (M : Plain) (id : ModId) (m : PModule) → module_of M id ≡ Some m → (k : ℕ) × (place_of M id ≡ Some k) × (slice_get M.modules k ≡ Some m)
+pub place-at : (M : Plain) (id : ModId) (m : PModule) → module_of M id ≡ Some m → (k : ℕ) × (place_of M id ≡ Some k) × (slice_get M.modules k ≡ Some m)
 place-at M id m found =
     let test : PModule → Bool = λ x. x.id.0 == id.0 in
     let k : ℕ = position_or_len test M.modules in

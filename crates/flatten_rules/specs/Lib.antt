@@ -8,7 +8,6 @@ pub mod Graph
 pub mod Reach
 pub mod Sound
 pub mod Checks
-pub mod Order
 pub mod Limits
 pub mod Extent
 pub mod Design

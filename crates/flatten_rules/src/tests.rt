@@ -1,47 +1,20 @@
-ghost use Rattle.std.specs.Prelude.{◌<◌, IsTrue, All};
-ghost use Rattle.emh_base.specs.declared.plain.PInst.{PInst};
-ghost use Rattle.flatten_rules.specs.Order.{MastersFirst};
-
 mod cycle;
 mod sound;
 mod tables;
 
 use crate::{is_sound, is_within};
-use emh_base::{ModId, NoMemory, PModule, Plain};
+use emh_base::{ModId, NoMemory, Plain};
 use std::alloc::Global;
 use std::test::Fail;
 use tables::{add_module, add_nets, chain, empty_table, levels};
 
 /// Whether a table is within the limits at a top; none where it isn't sound.
 fn within(alloc: Global, plain: &Plain, top: u32) -> Result<Option<bool>, NoMemory> {
-    if !is_sound(alloc, plain)? {
-        return Ok(None);
+    if is_sound(alloc, plain)? {
+        Ok(Some(is_within(alloc, plain, ModId(top))?))
+    } else {
+        Ok(None)
     }
-    if !have_masters_first(plain) {
-        return Ok(None);
-    }
-    Ok(Some(is_within(alloc, plain, ModId(top))?))
-}
-
-/// Whether masters stand before the modules of their instances.
-fn have_masters_first(plain: &Plain) -> bool
-    ensures { IsTrue result → MastersFirst plain.now }
-{
-    plain
-        .modules
-        .as_slice()
-        .iter()
-        .all(|holder| has_masters_first(holder))
-}
-
-fn has_masters_first(holder: &PModule) -> bool
-    ensures { IsTrue result → All (λ (inst : PInst). inst.master.0 < holder.now.id.0) holder.now.insts }
-{
-    holder
-        .insts
-        .as_slice()
-        .iter()
-        .all(|inst| inst.master.0 < holder.id.0)
 }
 
 // Level k holds two instances of the level below it, so it unfolds to 2 ^ (k + 1) - 1 occurrences.
@@ -130,6 +103,30 @@ fn walks_have_at_most_256_instances(rt: HostRuntime) -> Result<(), Fail> {
         Some(false),
         "a deep module that the top doesn't reach"
     );
+    Ok(())
+}
+
+// Module 0 is the top, and each of the others comes before its master.
+#[test]
+fn masters_may_come_later(rt: HostRuntime) -> Result<(), Fail> {
+    for (depth, is_within) in [
+        (0, true),
+        (255, true),
+        (256, true),
+        (257, false),
+        (400, false),
+    ] {
+        let mut plain = empty_table(rt.alloc());
+        for id in 0..depth {
+            add_module(rt.alloc(), &mut plain, id, &[id + 1])?;
+        }
+        add_module(rt.alloc(), &mut plain, depth, &[])?;
+        assert_eq!(rt;
+            within(rt.alloc(), &plain, 0)?,
+            Some(is_within),
+            "{depth} instances deep"
+        );
+    }
     Ok(())
 }
 
