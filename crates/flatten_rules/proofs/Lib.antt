@@ -8,3 +8,4 @@ pub mod Cycling
 pub mod Checking
 pub mod Extents
 pub mod Within
+pub mod Unfolded

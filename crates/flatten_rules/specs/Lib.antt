@@ -10,5 +10,6 @@ pub mod Sound
 pub mod Checks
 pub mod Limits
 pub mod Extent
+pub mod Walk
 pub mod Design
 pub mod TwoLevel

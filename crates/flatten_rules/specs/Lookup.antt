@@ -1,4 +1,4 @@
-use Rattle.std.specs.Prelude.{ℕ, ◌==◌, ◌+◌, ◌-◌, List, [], Option, Some, None, find, position}
+use Rattle.std.specs.Prelude.{ℕ, ◌==◌, ◌+◌, ◌-◌, ◌<◌, All, AllPairs, List, [], Option, Some, None, find, position}
 use Rattle.emh_base.specs.declared.ids.ModId.{ModId}
 use Rattle.emh_base.specs.declared.ids.NetId.{NetId}
 use Rattle.emh_base.specs.declared.ids.InstId.{InstId}
@@ -32,6 +32,10 @@ inst_of m id = find (λ inst. inst.id.0 == id.0) m.insts
 abbrev pub insts_of : Option PModule → List PInst
 insts_of None = []
 insts_of (Some m) = m.insts
+
+-- what a look-up of an instance rests on
+abbrev pub InstsRise : Plain → Type 0
+InstsRise M = All (λ (m : PModule). AllPairs (λ (a b : PInst). a.id.0 < b.id.0) m.insts) M.modules
 
 -- a net without a range has one bit, else one for each index from the one end to the other
 abbrev pub width : Option Range → ℕ

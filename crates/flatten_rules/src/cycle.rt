@@ -1,6 +1,6 @@
-ghost use Rattle.std.specs.Prelude.{◌≡◌, ◌++◌, ◌<◌, All, AllPairs, IfOk, OnOk};
-ghost use Rattle.emh_base.specs.declared.plain.PInst.{PInst};
+ghost use Rattle.std.specs.Prelude.{◌≡◌, ◌<◌, AllPairs, IfOk};
 ghost use Rattle.emh_base.specs.declared.plain.PModule.{PModule};
+ghost use Rattle.flatten_rules.specs.Lookup.{InstsRise};
 ghost use Rattle.flatten_rules.specs.Cycle.{IsFirstOnCycle};
 ghost use Rattle.flatten_rules.specs.Graph.{IsGraph, IsFirstReturning, graph_of, places_of};
 
@@ -14,7 +14,7 @@ use std::alloc::Global;
 /// it. None where no module from that place on is on one. The table need not be sound beyond the order of its ids.
 pub fn first_on_cycle(alloc: Global, plain: &Plain, from: usize) -> Result<Option<usize>, NoMemory>
     requires rise { AllPairs (λ (a b : PModule). a.id.0 < b.id.0) plain.now.modules }
-    requires insts { All (λ (m : PModule). AllPairs (λ (a b : PInst). a.id.0 < b.id.0) m.insts) plain.now.modules }
+    requires insts { InstsRise plain.now }
     ensures { IfOk result (λ first. IsFirstOnCycle plain.now from first) }
 {
     let graph = graph_of(alloc, plain)?;

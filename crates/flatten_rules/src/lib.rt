@@ -17,7 +17,7 @@ mod root;
 mod soundness;
 
 pub use cycle::first_on_cycle;
-pub use laws::{each_text_once, two_level_unfolds};
+pub use laws::{each_text_once, each_walk_once, two_level_unfolds};
 pub use limits::is_within;
 pub use lookup::{find, module_of, net_of, place_of_module, port_of, width};
 pub use numbered::{Numbered, place_of};

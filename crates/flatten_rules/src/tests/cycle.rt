@@ -1,6 +1,6 @@
 ghost use Rattle.std.specs.Prelude.{◌<◌, ◌↔◌, IsTrue, All, AllPairs};
 ghost use Rattle.emh_base.specs.declared.plain.PInst.{PInst};
-ghost use Rattle.emh_base.specs.declared.plain.PModule.{PModule};
+ghost use Rattle.flatten_rules.specs.Lookup.{InstsRise};
 
 use super::tables::{add_module, chain, empty_table};
 use crate::first_on_cycle;
@@ -14,16 +14,20 @@ fn first(alloc: Global, plain: &Plain, from: usize) -> Result<Option<Option<usiz
     if !rises(plain.modules.as_slice(), plain.next_module) {
         return Ok(None);
     }
-    if !insts_rise(plain.modules.as_slice()) {
+    if !insts_rise(plain) {
         return Ok(None);
     }
     Ok(Some(first_on_cycle(alloc, plain, from)?))
 }
 
-fn insts_rise(modules: &[PModule]) -> bool
-    ensures { IsTrue result → All (λ (m : PModule). AllPairs (λ (a b : PInst). a.id.0 < b.id.0) m.insts) modules.now }
+fn insts_rise(plain: &Plain) -> bool
+    ensures { IsTrue result → InstsRise plain.now }
 {
-    modules.iter().all(|holder| inst_ids_rise(holder))
+    plain
+        .modules
+        .as_slice()
+        .iter()
+        .all(|holder| inst_ids_rise(holder))
 }
 
 fn inst_ids_rise(holder: &PModule) -> bool
