@@ -1,9 +1,11 @@
 pub mod Places
 pub mod Sound
-pub mod Extents
 pub mod Walks
-pub mod Order
 pub mod TextLaws
-pub mod Counted
-pub mod Within
 pub mod Rising
+pub mod Following
+pub mod Cycling
+pub mod Checking
+pub mod Extents
+pub mod Within
+pub mod Unfolded

@@ -26,7 +26,7 @@ use Rattle.flatten_rules.specs.Domains.{NetBit}
 use Rattle.flatten_rules.specs.Sound.{IsSound, IsSoundModule, IsAllowed}
 use Rattle.flatten_rules.specs.Texts.{inst_name, names_up, net_up, net_bit_text, port_bit_text, Named, PathAt, BitAt, PinAt, IsThere, text_of, HasNames, TextsDiffer, EachTextOnce}
 use Rattle.flatten_rules.proofs.Sound.{All-find, sound-module}
-use Rattle.flatten_rules.proofs.Walks.{Step, last_step, up-own, id-of_net, find-passes, some-there, and_then-some}
+use Rattle.flatten_rules.proofs.Walks.{Step, last_step, up-own, id-of_net, find-passes, some-there, and_then-some, same-some}
 
 -- An item that is found stands at a place.
 record Place {X : Type 0} (xs : List X) (x : X) : Type 0 where
@@ -133,9 +133,6 @@ last-apart xs ys x y same =
 
 no-last : {X : Type 0} (xs : List X) (x : X) → xs ++ x ∷ [] ≡ [] → ⊥
 no-last xs x same = absurd (omega (arith, ap length same, length_push xs x))
-
-same-some : {X : Type 0} (o : Option X) (x y : X) → o ≡ Some x → o ≡ Some y → x ≡ y
-same-some o x y a b = let both : Some x ≡ Some y = sym a ∙ b in cc
 
 module _ (M : Plain) (top : ModId) (sound : IsSound M) (have : All HasNames M.modules) where
   has-names : (m : PModule) → module_of M m.id ≡ Some m → HasNames m

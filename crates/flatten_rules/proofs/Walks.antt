@@ -32,6 +32,10 @@ pub and_then-some : {X Y : Type 0} (f : X → Option Y) (o : Option X) (y : Y) �
 and_then-some f None y e = absurd (cc)
 and_then-some f (Some x) y e = (x, refl, e)
 
+-- an option holds one value
+pub same-some : {X : Type 0} (o : Option X) (x y : X) → o ≡ Some x → o ≡ Some y → x ≡ y
+same-some o x y a b = let both : Some x ≡ Some y = sym a ∙ b in cc
+
 found_here : {X : Type 0} (test : X → Bool) (number : X → ℕ) (b : Bool) (y x : X) (rest : Option X) (top : ℕ) → test y ≡ b → (rest ≡ Some x → (test x ≡ true) × (number x ≤ top)) → cond b (Some y) rest ≡ Some x → (test x ≡ true) × (number x ≤ max (number y) top)
 found_here test number true y x rest top here there e = let same : y ≡ x = cc in let at : number y ≡ number x = ap number same in (cc, omega arith)
 found_here test number false y x rest top here there e = ((there e).0, omega (arith, (there e).1))

@@ -14,6 +14,7 @@ use Rattle.flatten_rules.specs.Limits.{IsWithin}
 use Rattle.flatten_rules.specs.Sound.{IsSound}
 use Rattle.flatten_rules.specs.Extent.{height, total, one, bits_in, IsExtent, AreExtents}
 use Rattle.flatten_rules.proofs.Sound.{All-find}
+use Rattle.flatten_rules.proofs.Places.{item-there}
 use Rattle.flatten_rules.proofs.Walks.{id-of_found, within-by_cases, height-within, walks-within}
 
 sum_by-flat_map : {X Y : Type 0} (number : Y → ℕ) (items : X → List Y) (xs : List X) → sum_by number (flat_map items xs) ≡ sum_by (λ x. sum_by number (items x)) xs
@@ -39,20 +40,12 @@ total-unfolded number M (suc levels) path m =
     let insts : List PInst = insts_of (module_of M m) in
     omega (arith, sum_by-cons of (path, m) (flat_map below insts), sum_by-flat_map of below insts, sum_by_same (λ inst. sum_by of (below inst)) (λ inst. total number M inst.master levels) (λ inst. total-unfolded number M levels (path ++ inst.id ∷ []) inst.master) insts)
 
-module _ (M : Plain) (top : ModId) (e : Extent) (here : IsExtent M top e) (low : height M top 257 ≤ 256) where
+module _ (M : Plain) (top : ModId) (e : Extent) (here : IsExtent M top 257 e) where
   size-is : min (length (occurrences M top)) 1000001 ≡ e.size
-  size-is =
-      let shallow : e.depth < 257 = omega (arith, here.depth 257 (omega arith)) in
-      omega (arith, length-sum_by (occurrences M top), total-unfolded one M 257 [] top, here.size 257 shallow (omega arith))
+  size-is = omega (arith, length-sum_by (occurrences M top), total-unfolded one M 257 [] top, here.size)
 
   bits-is : min (sum_by (λ (o : Occurrence). bits_in M o.1) (occurrences M top)) 4000001 ≡ e.bits
-  bits-is =
-      let shallow : e.depth < 257 = omega (arith, here.depth 257 (omega arith)) in
-      omega (arith, total-unfolded (bits_in M) M 257 [] top, here.bits 257 shallow (omega arith))
-
-first-there : {X : Type 0} (xs : List X) → 0 < length xs → (x : X) × (get_or xs 0 x ≡ x)
-first-there [] some = absurd (omega arith)
-first-there (x ∷ xs) some = (x, refl)
+  bits-is = omega (arith, total-unfolded (bits_in M) M 257 [] top, here.bits)
 
 abbrev pub AllShallow : List Extent → Type 0
 AllShallow extents = All (λ (e : Extent). e.depth ≤ 256) extents
@@ -60,32 +53,31 @@ AllShallow extents = All (λ (e : Extent). e.depth ≤ 256) extents
 abbrev pub IsSmall : Extent → Type 0
 IsSmall e = (e.size ≤ 1000000) × (e.bits ≤ 4000000)
 
-module _ (M : Plain) (top : ModId) (extents : List Extent) (e : Extent) (sound : IsSound M) (known : AreExtents M extents) (all : length extents ≡ length M.modules) (here : IsExtent M top e) where
+module _ (M : Plain) (top : ModId) (extents : List Extent) (e : Extent) (sound : IsSound M) (known : AreExtents M 257 extents) (here : IsExtent M top 257 e) where
   low-from_shallow : AllShallow extents → (m : ModId) → height M m 257 ≤ 256
   low-from_shallow shallow m =
       let Low : PModule → Type 0 = λ x. height M x.id 257 ≤ 256 in
-      let each : All Low M.modules = λ k d within. omega (arith, (known.each k d e (omega arith)).depth 257 (omega arith), shallow k e (omega arith)) in
+      let each : All Low M.modules = λ k d within. omega (arith, (known.each k d e within).depth, shallow k e (omega (arith, known.all))) in
       within-by_cases M m 257 256 (module_of M m) refl (λ x found.
       let same : height M x.id 257 ≡ height M m 257 = ap (λ (at : ModId). height M at 257) (id-of_found M m x found) in
       omega (arith, same, All-find Low (λ y. y.id.0 == m.0) M.modules x each found))
 
   pub within-from_extents : AllShallow extents → IsSmall e → IsWithin M top
-  within-from_extents shallow small =
-      let low = low-from_shallow shallow in
-      record {
-        depth = walks-within M 256 low;
-        size = omega (arith, size-is M top e here (low top), small.0);
-        bits = omega (arith, bits-is M top e here (low top), small.1);
-      }
+  within-from_extents shallow small = record {
+    depth = walks-within M 256 (low-from_shallow shallow);
+    size = omega (arith, size-is M top e here, small.0);
+    bits = omega (arith, bits-is M top e here, small.1);
+  }
 
   -- (the module at that place, whichever stands past the end)
   shallow-at : ((m : ModId) (levels : ℕ) → height M m levels ≤ 256) → (k : ℕ) (f : Extent) → k < length extents → (get_or extents k f).depth ≤ 256
   shallow-at low k f within =
-      let there = first-there M.modules (omega arith) in
-      omega (arith, (known.each k there.0 f within).depth 257 (omega arith), low (get_or M.modules k there.0).id 257)
+      let in_table : k < length M.modules = omega (arith, known.all) in
+      let m : PModule = (item-there M.modules k in_table).0 in
+      omega (arith, (known.each k m f in_table).depth, low (get_or M.modules k m).id 257)
 
   pub extents-from_within : IsWithin M top → AllShallow extents × IsSmall e
   extents-from_within within =
       let low : (m : ModId) (levels : ℕ) → height M m levels ≤ 256 = height-within M 256 sound within.depth in
       let shallow : AllShallow extents = shallow-at low in
-      (shallow, (omega (arith, size-is M top e here (low top 257), within.size), omega (arith, bits-is M top e here (low top 257), within.bits)))
+      (shallow, (omega (arith, size-is M top e here, within.size), omega (arith, bits-is M top e here, within.bits)))

@@ -1,4 +1,4 @@
-use Rattle.std.specs.Prelude.{◌≡◌, ℕ, zero, suc, ◌+◌, ◌<◌, ◌≤◌, min, max, List, [], ◌∷◌, length, sum_by, slice_index_or}
+use Rattle.std.specs.Prelude.{◌≡◌, ℕ, zero, suc, ◌+◌, ◌<◌, ◌≤◌, min, max, List, [], ◌∷◌, map, length, Some, sum_by, slice_index_or}
 use Rattle.emh_base.specs.declared.ids.ModId.{ModId}
 use Rattle.emh_base.specs.declared.plain.PInst.{PInst}
 use Rattle.emh_base.specs.declared.plain.PModule.{PModule}
@@ -32,28 +32,17 @@ one m = 1
 abbrev pub bits_in : Plain → ModId → ℕ
 bits_in M m = bits_of (module_of M m)
 
--- each number of an extent stops at its limit plus one
-pub record Stops (e : Extent) : Type 0 where
-  pub depth : e.depth ≤ 257
-  pub size : e.size ≤ 1000001
-  pub bits : e.bits ≤ 4000001
+-- An extent is that of a module, down to that many levels. Each number stops at its limit plus one.
+pub record IsExtent (M : Plain) (m : ModId) (levels : ℕ) (e : Extent) : Type 0 where
+  pub depth : min (height M m levels) 257 ≡ e.depth
+  pub size : min (total one M m levels) 1000001 ≡ e.size
+  pub bits : min (total (bits_in M) M m levels) 4000001 ≡ e.bits
 
--- An extent is that of a module. Where no walk is too long, its size and its bits are those of all occurrences.
-pub record IsExtent (M : Plain) (m : ModId) (e : Extent) : Type 0 where
-  pub stops : Stops e
-  pub depth : (levels : ℕ) → levels ≤ 257 → height M m levels ≡ min levels e.depth
-  pub size : (levels : ℕ) → e.depth < levels → levels ≤ 257 → min (total one M m levels) 1000001 ≡ e.size
-  pub bits : (levels : ℕ) → e.depth < levels → levels ≤ 257 → min (total (bits_in M) M m levels) 4000001 ≡ e.bits
-
--- An extent is that of some instances together, by the walks that begin with one of them.
-pub record IsExtentOf (M : Plain) (insts : List PInst) (e : Extent) : Type 0 where
-  pub stops : Stops e
-  pub depth : (levels : ℕ) → levels < 257
-      → greatest_by (λ (inst : PInst). suc (height M inst.master levels)) insts ≡ min (suc levels) e.depth
-  pub size : (levels : ℕ) → e.depth ≤ levels → levels < 257
-      → min (sum_by (λ (inst : PInst). total one M inst.master levels) insts) 1000001 ≡ e.size
-  pub bits : (levels : ℕ) → e.depth ≤ levels → levels < 257
-      → min (sum_by (λ (inst : PInst). total (bits_in M) M inst.master levels) insts) 4000001 ≡ e.bits
+-- An extent is that of some instances together, with that many levels below each.
+pub record IsExtentOf (M : Plain) (insts : List PInst) (levels : ℕ) (e : Extent) : Type 0 where
+  pub depth : min (greatest_by (λ (inst : PInst). suc (height M inst.master levels)) insts) 257 ≡ e.depth
+  pub size : min (sum_by (λ (inst : PInst). total one M inst.master levels) insts) 1000001 ≡ e.size
+  pub bits : min (sum_by (λ (inst : PInst). total (bits_in M) M inst.master levels) insts) 4000001 ≡ e.bits
 
 -- the extent of some instances and one more, whose master has an extent
 abbrev pub with_instance : Extent → Extent → Extent
@@ -63,8 +52,20 @@ with_instance e master = record {
   bits = min (e.bits + master.bits) 4000001;
 }
 
--- these are the extents of the first modules of the table, in its order
-pub record AreExtents (M : Plain) (extents : List Extent) : Type 0 where
-  pub few : length extents ≤ length M.modules
-  pub each : (k : ℕ) (m : PModule) (e : Extent) → k < length extents
-      → IsExtent M (slice_index_or M.modules k m).id (slice_index_or extents k e)
+-- the extent of a module with that many net bits, whose instances have an extent
+abbrev pub with_module : Extent → ℕ → Extent
+with_module e bits = record {
+  depth = e.depth;
+  size = min (e.size + 1) 1000001;
+  bits = min (e.bits + bits) 4000001;
+}
+
+-- these are the extents of the modules of the table, in its order
+pub record AreExtents (M : Plain) (levels : ℕ) (extents : List Extent) : Type 0 where
+  pub all : length extents ≡ length M.modules
+  pub each : (k : ℕ) (m : PModule) (e : Extent) → k < length M.modules
+      → IsExtent M (slice_index_or M.modules k m).id levels (slice_index_or extents k e)
+
+-- the net bits of an occurrence of each module, which stop at the limit plus one
+abbrev pub own_bits : Plain → List ℕ
+own_bits M = map (λ (m : PModule). min (bits_of (Some m)) 4000001) M.modules

@@ -3,9 +3,13 @@ pub mod Unfolding
 pub mod Root
 pub mod Domains
 pub mod Texts
+pub mod Cycle
+pub mod Graph
+pub mod Reach
 pub mod Sound
-pub mod Order
+pub mod Checks
 pub mod Limits
 pub mod Extent
+pub mod Walk
 pub mod Design
 pub mod TwoLevel

@@ -11,9 +11,12 @@ abbrev pub bits_of : Option PModule → ℕ
 bits_of None = 0
 bits_of (Some m) = if m.leaf then 0 else sum_by (λ net. width net.range) m.nets
 
+-- no walk of instances, from whichever module, is longer than 256
+abbrev pub WalksAreShort : Plain → Type 0
+WalksAreShort M = (m : ModId) (up : List InstId) → IsSome (module_up M m up) → length up ≤ 256
+
 -- The limits of a table at a top. The first holds for all modules, those that the top doesn't reach too.
 pub record IsWithin (M : Plain) (top : ModId) : Type 0 where
-  -- no walk of instances, from whichever module, is longer than 256
-  pub depth : (m : ModId) (up : List InstId) → IsSome (module_up M m up) → length up ≤ 256
+  pub depth : WalksAreShort M
   pub size : length (occurrences M top) ≤ 1000000
   pub bits : sum_by (λ (o : Occurrence). bits_of (module_of M o.1)) (occurrences M top) ≤ 4000000

@@ -1,4 +1,4 @@
-use Rattle.std.specs.Prelude.{ℕ, ◌==◌, ◌+◌, ◌-◌, List, [], Option, Some, None, find}
+use Rattle.std.specs.Prelude.{ℕ, ◌==◌, ◌+◌, ◌-◌, ◌<◌, All, AllPairs, List, [], Option, Some, None, find, position}
 use Rattle.emh_base.specs.declared.ids.ModId.{ModId}
 use Rattle.emh_base.specs.declared.ids.NetId.{NetId}
 use Rattle.emh_base.specs.declared.ids.InstId.{InstId}
@@ -14,6 +14,10 @@ use Rattle.emh_base.specs.declared.plain.Plain.{Plain}
 abbrev pub module_of : Plain → ModId → Option PModule
 module_of M id = find (λ m. m.id.0 == id.0) M.modules
 
+-- the place in the table of the module of that id
+abbrev pub place_of : Plain → ModId → Option ℕ
+place_of M id = position (λ m. m.id.0 == id.0) M.modules
+
 abbrev pub net_of : PModule → NetId → Option PNet
 net_of m id = find (λ net. net.id.0 == id.0) m.nets
 
@@ -28,6 +32,10 @@ inst_of m id = find (λ inst. inst.id.0 == id.0) m.insts
 abbrev pub insts_of : Option PModule → List PInst
 insts_of None = []
 insts_of (Some m) = m.insts
+
+-- what a look-up of an instance rests on
+abbrev pub InstsRise : Plain → Type 0
+InstsRise M = All (λ (m : PModule). AllPairs (λ (a b : PInst). a.id.0 < b.id.0) m.insts) M.modules
 
 -- a net without a range has one bit, else one for each index from the one end to the other
 abbrev pub width : Option Range → ℕ

@@ -1,5 +1,6 @@
 ghost use Rattle.flatten_rules.specs.Texts.{EachTextOnce};
 ghost use Rattle.flatten_rules.specs.TwoLevel.{TwoLevelUnfolds};
+ghost use Rattle.flatten_rules.specs.Walk.{EachWalkOnce};
 
 /// The definitions tried on the worked example.
 pub fn two_level_unfolds()
@@ -10,4 +11,10 @@ pub fn two_level_unfolds()
 /// contract is what this is for.
 pub fn each_text_once()
     ensures { EachTextOnce }
+{}
+
+/// The law of walks: where walks are not too long, the unfolding of a top has each path that leads to a module exactly
+/// once, with the id of that module. The contract is what this is for.
+pub fn each_walk_once()
+    ensures { EachWalkOnce }
 {}

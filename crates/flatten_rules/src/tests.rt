@@ -1,9 +1,9 @@
+mod cycle;
 mod sound;
 mod tables;
 
-use crate::is_within;
+use crate::{is_sound, is_within};
 use emh_base::{ModId, NoMemory, Plain};
-use sound::is_sound;
 use std::alloc::Global;
 use std::test::Fail;
 use tables::{add_module, add_nets, chain, empty_table, levels};
@@ -103,6 +103,30 @@ fn walks_have_at_most_256_instances(rt: HostRuntime) -> Result<(), Fail> {
         Some(false),
         "a deep module that the top doesn't reach"
     );
+    Ok(())
+}
+
+// Module 0 is the top, and each of the others comes before its master.
+#[test]
+fn masters_may_come_later(rt: HostRuntime) -> Result<(), Fail> {
+    for (depth, is_within) in [
+        (0, true),
+        (255, true),
+        (256, true),
+        (257, false),
+        (400, false),
+    ] {
+        let mut plain = empty_table(rt.alloc());
+        for id in 0..depth {
+            add_module(rt.alloc(), &mut plain, id, &[id + 1])?;
+        }
+        add_module(rt.alloc(), &mut plain, depth, &[])?;
+        assert_eq!(rt;
+            within(rt.alloc(), &plain, 0)?,
+            Some(is_within),
+            "{depth} instances deep"
+        );
+    }
     Ok(())
 }
 

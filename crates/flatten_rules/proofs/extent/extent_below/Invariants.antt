@@ -1,7 +1,7 @@
 -- The extent is that of the instances so far.
-use Rattle.std.proofs.Common.{take}
-use Rattle.flatten_rules.specs.Extent.{IsExtentOf}
+use Rattle.std.proofs.Common.{ℕ, take}
+use Rattle.flatten_rules.specs.Extent.{IsExtentOf, AreExtents}
 use Rattle.flatten_rules.proofs.extent.extent_below.Given as goal
 
-abbrev pub invariant-loop-inst : goal.invariant-loop-inst
-invariant-loop-inst l = IsExtentOf l.plain (take l.inst-index l.inst-items) l.below
+abbrev pub invariant-loop-place : goal.invariant-loop-place
+invariant-loop-place l = (levels : ℕ) → AreExtents l.plain levels l.extents → IsExtentOf l.plain (take l.place-index l.holder.insts) levels l.below

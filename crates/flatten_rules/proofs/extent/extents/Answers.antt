@@ -1,22 +1,30 @@
-use Rattle.std.proofs.Common.{◌≡◌, ◌<◌, length, get_or, List, ap, sym, ◌∙◌, arith}
-use Rattle.std.proofs.lemmas.List.{length_push}
-use Rattle.emh_base.specs.declared.plain.PModule.{PModule}
-use Rattle.flatten_rules.proofs.Counted.{extents-more}
+use Rattle.std.proofs.Common.{ℕ, ◌+◌, ◌-◌, ◌≡◌, List, subst, ap, sym, ◌∙◌, arith}
+use Rattle.flatten_rules.specs.declared.extent.Extent.{Extent}
+use Rattle.flatten_rules.specs.Extent.{AreExtents}
+use Rattle.flatten_rules.proofs.Extents.{stable}
 use Rattle.flatten_rules.proofs.extent.extents.Goals as goal
+use Rattle.flatten_rules.proofs.extent.extents.Goals.{else-loop-level-test, then-loop-level-test+in_ok-more+then-are_same}
 
-pub loop-holder-preserved : goal.loop-holder-preserved
-loop-holder-preserved c =
-    let made = c.loop-holder.made in
-    let holder : PModule = c.holder-item.result in
-    let modules : List PModule = c.args.plain.now.modules in
-    let counted : length made ≡ c.loop-holder.holder-index = c.loop-holder.invariant.0 in
-    let items = c.as_slice-holder-items.ensures in
-    let room : length made < length modules = omega (arith, ap length items, c.loop-holder-test.true) in
-    let at : holder ≡ get_or modules (length made) holder =
-    c.holder-item.is ∙ ap (λ (items : List PModule). get_or items c.loop-holder.holder-index holder) items
-    ∙ ap (λ i. get_or modules i holder) (sym counted)
-    in
-    rw c.in_ok-push.ensures.ok (
-      omega (arith, length_push made c.extent_of-extent.result),
-      extents-more c.args.plain.now made holder c.extent_of-extent.result room at c.loop-holder.invariant.1 c.extent_of-extent.ensures,
-    )
+pub loop-level-preserved : goal.loop-level-preserved
+loop-level-preserved c =
+    let M = c.args.plain.now in
+    let level = c.loop-level._level in
+    let Step : List Extent → Type 0 = λ xs. (levels : ℕ) → AreExtents M levels xs → AreExtents M (levels + 1) c.in_ok-more.more in
+    subst Step c.as_slice-in-loop-level-2.ensures c.in_ok-more.ensures level c.loop-level.invariant
+
+pub returns : goal.returns
+returns c =
+    let M = c.args.plain.now in
+    let level = c.loop-level._level in
+    let made = c.loop-level.made in
+    elim c.loop-level-test.branch [
+      | else-loop-level-test w ↦
+          let all : level ≡ 257 = omega (arith, w.loop-level-test.false, c.loop-level.auto._level-end) in
+          subst (λ levels. AreExtents M levels made) all c.loop-level.invariant
+      | then-loop-level-test+in_ok-more+then-are_same w ↦
+          let Step : List Extent → Type 0 = λ xs. (levels : ℕ) → AreExtents M levels xs → AreExtents M (levels + 1) w.in_ok-more.more in
+          let step = subst Step w.as_slice-in-loop-level-2.ensures w.in_ok-more.ensures in
+          let same = sym w.as_slice-in-loop-level-3.ensures ∙ w.are_same.ensures w.if-are_same.true ∙ w.as_slice-in-loop-level-4.ensures in
+          let all : level + (257 - level) ≡ 257 = omega (arith, w.loop-level-test.true) in
+          subst (λ levels. AreExtents M levels made) all (stable M made w.in_ok-more.more same step level (257 - level) c.loop-level.invariant)
+    ]

@@ -1,7 +1,6 @@
--- The extents are those of the modules so far.
-use Rattle.std.proofs.Common.{◌≡◌, length}
+-- The extents are those down to as many levels.
 use Rattle.flatten_rules.specs.Extent.{AreExtents}
 use Rattle.flatten_rules.proofs.extent.extents.Given as goal
 
-abbrev pub invariant-loop-holder : goal.invariant-loop-holder
-invariant-loop-holder l = (length l.made ≡ l.holder-index) × AreExtents l.plain l.made
+abbrev pub invariant-loop-level : goal.invariant-loop-level
+invariant-loop-level l = AreExtents l.plain l._level l.made
