@@ -7,6 +7,7 @@ pub mod ScriptLemmas
 pub mod GainsLemmas
 pub mod OpenLemmas
 pub mod PlainNames
+pub mod PlainOrder
 pub mod PlainSound
 pub mod Playing
 pub mod FetchLemmas

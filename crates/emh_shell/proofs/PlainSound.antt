@@ -1,4 +1,4 @@
--- The table of a file of the plain form is sound, and its masters come first.
+-- The table of a file of the plain form is sound.
 use Rattle.std.proofs.Common.{◌≡◌, ◌≢◌, ℕ, zero, suc, ◌+◌, ◌==◌, ◌<◌, Bool, true, false, not, cond, List, [], ◌∷◌, ◌++◌, map, find, take, drop, length, get_or, slice_get, position, Option, Some, None, IsTrue, IsSome, MatchOption, option_map, bytes_eq, All, AllPairs, Contains, refl, sym, ap, ◌∙◌, subst, arith}
 use Rattle.std.specs.List.{position_or_len, IsDistinct}
 use Rattle.std.specs.Option.{option_or}
@@ -20,10 +20,9 @@ use Rattle.emh_base.specs.declared.plain.Plain.{Plain}
 use Rattle.flatten_rules.specs.Lookup as lookup
 use Rattle.flatten_rules.specs.Lookup.{width_of}
 use Rattle.flatten_rules.specs.Sound.{IsSound, IsSoundModule, IsCell, HasMaster, FitPorts, FitsPort, IsSource, IsAllowed}
-use Rattle.flatten_rules.specs.Order.{MastersFirst}
 use Rattle.flatten_rules.proofs.Sound.{All-find}
 use Rattle.flatten_rules.proofs.Walks.{find-own}
-use Rattle.flatten_rules.proofs.Order.{no_cycle-from_order}
+use Rattle.emh_shell.proofs.PlainOrder.{MastersFirst, no_cycle-from_order}
 use Rattle.vlog_plain.specs.declared.netlist.Netlist.{Netlist}
 use Rattle.vlog_plain.specs.declared.netlist.Module.{Module}
 use Rattle.vlog_plain.specs.declared.netlist.Instance.{Instance}
@@ -422,10 +421,6 @@ sound-rows n is = record {
   no_cycle = no_cycle-from_order (in_rows n) (rows-order n is);
 }
 
-abbrev IsFirstAndSound : Plain → Type 0
-IsFirstAndSound M = IsSound M × MastersFirst M
-
-pub sound-from_plain : (bytes : List ℕ) (M : Plain) → IsPlainFile bytes M → IsSound M × MastersFirst M
+pub sound-from_plain : (bytes : List ℕ) (M : Plain) → IsPlainFile bytes M → IsSound M
 sound-from_plain bytes M file =
-    subst IsFirstAndSound (sym file.made)
-    (subst IsFirstAndSound (sym (table-in_rows file.netlist)) (sound-rows file.netlist file.conditions, rows-order file.netlist file.conditions))
+    subst IsSound (sym file.made) (subst IsSound (sym (table-in_rows file.netlist)) (sound-rows file.netlist file.conditions))
