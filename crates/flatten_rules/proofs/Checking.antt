@@ -14,9 +14,8 @@ use Rattle.emh_base.specs.declared.plain.PPort.{PPort}
 use Rattle.emh_base.specs.declared.plain.PModule.{PModule}
 use Rattle.flatten_rules.specs.Lookup.{net_of, port_of}
 use Rattle.flatten_rules.specs.Sound.{FitPorts, FitsPort, IsCell}
-use Rattle.flatten_rules.specs.Checks.{HasNets, HasPorts, TellPorts}
-use Rattle.flatten_rules.proofs.Places.{item-there, position-within, find-from_place, find-from_none}
-use Rattle.flatten_rules.proofs.Following.{or-false}
+use Rattle.flatten_rules.specs.Checks.{HasNets, HasPorts, ArePortPlaces, port_place}
+use Rattle.flatten_rules.proofs.Places.{item-there, position-within, position-none, position-push_yes, position-push_no, none-fails, find-from_place, find-from_none}
 
 -- connections fit ports where there are as many, and each fits the port at its place
 pub record FitEach (m master : PModule) (ports : List PPort) (conns : List Conn) (upto : ℕ) : Type 0 where
@@ -54,27 +53,22 @@ pub fit-misfit : (m master : PModule) (ports : List PPort) (conns : List Conn) (
 fit-misfit m master ports conns i port conn fits within at_port at_conn tells misfit all =
     both_ways fits misfit (tells.1 (rw (at_port port, at_conn conn) (fit-at m master ports conns all i port conn within)))
 
--- whether an item is found is whether there is one
-is_some-find : {X : Type 0} (p : X → Bool) (xs : List X) → is_some (find p xs) ≡ list_any p xs
-is_some-find p [] = refl
-is_some-find p (x ∷ xs) = elim (p x) as (λ b. is_some (cond b (Some x) (find p xs)) ≡ (b || list_any p xs)) [ true ↦ refl | false ↦ is_some-find p xs ]
-
 abbrev has_net : NetId → PPort → Bool
 has_net id port = port.net.0 == id.0
 
--- The first ports of a module have nets of their own, and the flags tell which nets these are.
-pub record Flagged (m : PModule) (ports : List PPort) (flags : List Bool) : Type 0 where
-  pub many : length flags ≡ length m.nets
+-- The first ports of a module have nets of their own, and for each net the place of the port among them is known.
+pub record Placed (m : PModule) (ports : List PPort) (places : List (Option ℕ)) : Type 0 where
+  pub many : length places ≡ length m.nets
   pub there : All (λ (port : PPort). IsSome (net_of m port.net)) ports
   pub differ : AllPairs (λ (a b : PPort). a.net ≢ b.net) ports
-  pub each : (k : ℕ) (net : PNet) → k < length m.nets → get_or flags k false ≡ list_any (has_net (get_or m.nets k net).id) ports
+  pub each : (k : ℕ) (net : PNet) → k < length m.nets → get_or places k None ≡ position (has_net (get_or m.nets k net).id) ports
 
-pub flagged-none : (m : PModule) (flags : List Bool) → flags ≡ replicate (length m.nets) false → Flagged m [] flags
-flagged-none m flags is = record {
-  many = ap length is ∙ length-replicate (length m.nets) false;
+pub placed-none : (m : PModule) (places : List (Option ℕ)) → places ≡ replicate (length m.nets) None → Placed m [] places
+placed-none m places is = record {
+  many = ap length is ∙ length-replicate (length m.nets) None;
   there = λ k d within. absurd (omega arith);
   differ = λ i j d below within. absurd (omega arith);
-  each = λ k net within. rw is (get_or-replicate (length m.nets) k false false within);
+  each = λ k net within. rw is (get_or-replicate (length m.nets) k None None within);
 }
 
 module _ (m : PModule) (nets : HasNets m) where
@@ -86,7 +80,7 @@ module _ (m : PModule) (nets : HasNets m) where
       let there : There port = subst There (sym at) (own.there i port within) in
       absurd (false≢true (rw (← absent) at there))
 
-  module _ (i : ℕ) (port : PPort) (place : ℕ) (flags : List Bool) (within : i < length m.ports) (at : port ≡ get_or m.ports i port) (found : Some place ≡ position (λ (net : PNet). net.id.0 == port.net.0) m.nets) (before : Flagged m (take i m.ports) flags) where
+  module _ (i : ℕ) (port : PPort) (place : ℕ) (places : List (Option ℕ)) (within : i < length m.ports) (at : port ≡ get_or m.ports i port) (found : Some place ≡ position (λ (net : PNet). net.id.0 == port.net.0) m.nets) (before : Placed m (take i m.ports) places) where
     in_nets : place < length m.nets
     in_nets = position-within (λ (net : PNet). net.id.0 == port.net.0) m.nets place found
 
@@ -94,30 +88,30 @@ module _ (m : PModule) (nets : HasNets m) where
     net-at : (net : PNet) → (get_or m.nets place net).id.0 ≡ port.net.0
     net-at net = eqb-true (get_or m.nets place net).id.0 port.net.0 (position-Some (λ (x : PNet). x.id.0 == port.net.0) m.nets place net (sym found)).1
 
-    -- whether an earlier port has it
-    taken : get_or flags place false ≡ list_any (has_net port.net) (take i m.ports)
-    taken =
+    -- the earlier port on it
+    earlier : get_or places place None ≡ position (has_net port.net) (take i m.ports)
+    earlier =
         let net : PNet = (item-there m.nets place in_nets).0 in
-        before.each place net in_nets ∙ ap (λ n. list_any (λ (p : PPort). p.net.0 == n) (take i m.ports)) (net-at net)
+        before.each place net in_nets ∙ ap (λ n. position (λ (p : PPort). p.net.0 == n) (take i m.ports)) (net-at net)
 
     same-net : (p : PPort) → p.net.0 ≡ port.net.0 → p.net ≡ port.net
     same-net p same = let make : ℕ → NetId = λ n. record { 0 = n } in ap make same
 
     -- a port whose net an earlier one has
-    pub net-taken : get_or flags place false ≡ true → HasPorts m → ⊥
-    net-taken set own =
-        let any = Any-from_list_any (has_net port.net) (take i m.ports) (sym taken ∙ set) in
-        let k : ℕ = any.0 in
-        let other : PPort = any.1 in
-        let below : k < i = omega (arith, any.2, length-take i m.ports) in
-        let here : get_or m.ports k port ≡ other = sym (get_or-take i m.ports k port below) ∙ get_or_default (take i m.ports) k port other any.2 ∙ any.3 in
-        let same : (get_or m.ports k port).net ≡ port.net = ap (λ (p : PPort). p.net) here ∙ same-net other (eqb-true other.net.0 port.net.0 any.4) in
+    pub net-taken : (k : ℕ) → get_or places place None ≡ Some k → HasPorts m → ⊥
+    net-taken k set own =
+        let some = position-Some (has_net port.net) (take i m.ports) k port (sym earlier ∙ set) in
+        let below : k < i = omega (arith, some.0, length-take i m.ports) in
+        let here : get_or (take i m.ports) k port ≡ get_or m.ports k port = get_or-take i m.ports k port below in
+        let same : (get_or m.ports k port).net ≡ port.net =
+        ap (λ (p : PPort). p.net) (sym here) ∙ same-net (get_or (take i m.ports) k port) (eqb-true (get_or (take i m.ports) k port).net.0 port.net.0 some.1)
+        in
         own.differ k i port below within (same ∙ ap (λ (p : PPort). p.net) at)
 
-    free : get_or flags place false ≡ false → (k : ℕ) (d : PPort) → k < length (take i m.ports) → (get_or (take i m.ports) k d).net ≢ port.net
+    free : get_or places place None ≡ None → (k : ℕ) (d : PPort) → k < length (take i m.ports) → (get_or (take i m.ports) k d).net ≢ port.net
     free unset k d low same =
         let passes : has_net port.net (get_or (take i m.ports) k d) ≡ true = eq-eqb (get_or (take i m.ports) k d).net.0 port.net.0 (ap (λ (n : NetId). n.0) same) in
-        both_ways (list_any (has_net port.net) (take i m.ports)) (sym taken ∙ unset) (list_any_at (has_net port.net) (take i m.ports) k d low passes)
+        both_ways (has_net port.net (get_or (take i m.ports) k d)) (none-fails (has_net port.net) (take i m.ports) (sym earlier ∙ unset) k d low) passes
 
     is_there : IsSome (net_of m port.net)
     is_there =
@@ -131,45 +125,79 @@ module _ (m : PModule) (nets : HasNets m) where
         (λ (from : place ≤ k). let above : place < k = omega (arith, apart) in absurd (omega (arith, nets.rise place k net above in_k, net-at net, same)))
         (cases_lt k place))
 
-    one-more : (k : ℕ) (net : PNet) → list_any (has_net (get_or m.nets k net).id) (take (i + 1) m.ports) ≡ (list_any (has_net (get_or m.nets k net).id) (take i m.ports) || has_net (get_or m.nets k net).id port)
-    one-more k net =
-        list_any_more (has_net (get_or m.nets k net).id) m.ports i port within
-        ∙ ap (λ (p : PPort). list_any (has_net (get_or m.nets k net).id) (take i m.ports) || has_net (get_or m.nets k net).id p) (sym at)
+    last-port : take (i + 1) m.ports ≡ take i m.ports ++ port ∷ []
+    last-port = take_more m.ports i port within ∙ ap (λ (p : PPort). take i m.ports ++ p ∷ []) (sym at)
 
-    pub flagged-more : get_or flags place false ≡ false → Flagged m (take (i + 1) m.ports) (set flags place true)
-    flagged-more unset =
-        let last : take (i + 1) m.ports ≡ take i m.ports ++ port ∷ [] = take_more m.ports i port within ∙ ap (λ (p : PPort). take i m.ports ++ p ∷ []) (sym at) in
-        record {
-          many = length-set flags place true ∙ before.many;
-          there = rw last (All-push (λ (p : PPort). IsSome (net_of m p.net)) (take i m.ports) port before.there is_there);
-          differ = rw last (all_pairs_push (λ (a b : PPort). a.net ≢ b.net) (take i m.ports) port before.differ (free unset));
-          each = λ k net in_k. ⊎_elim
-              (λ (same : k ≡ place).
-              let id : has_net (get_or m.nets k net).id port ≡ true = eq-eqb port.net.0 (get_or m.nets k net).id.0 (sym (ap (λ j. (get_or m.nets j net).id.0) same ∙ net-at net)) in
-              ap (λ j. get_or (set flags place true) j false) same ∙ get_or-set_same flags place true false (omega (arith, before.many, in_nets))
-              ∙ sym (one-more k net ∙ or_right (list_any (has_net (get_or m.nets k net).id) (take i m.ports)) (has_net (get_or m.nets k net).id port) id))
-              (λ (apart : k ≡ place → ⊥).
-              get_or-set_other flags place k true false apart ∙ before.each k net in_k
-              ∙ sym (one-more k net ∙ ap (λ b. list_any (has_net (get_or m.nets k net).id) (take i m.ports) || b) (other-net k net in_k apart) ∙ or-false (list_any (has_net (get_or m.nets k net).id) (take i m.ports))))
-              (cases_eq k place);
-        }
+    -- the place of the port at the place of its net
+    here-more : get_or places place None ≡ None → (net : PNet) → position (has_net (get_or m.nets place net).id) (take (i + 1) m.ports) ≡ Some i
+    here-more unset net =
+        let id : has_net (get_or m.nets place net).id port ≡ true = eq-eqb port.net.0 (get_or m.nets place net).id.0 (sym (net-at net)) in
+        let many : length (take i m.ports) ≡ i = omega (arith, length-take i m.ports) in
+        ap (position (has_net (get_or m.nets place net).id)) last-port
+        ∙ position-push_yes (has_net (get_or m.nets place net).id) (take i m.ports) port (sym (before.each place net in_nets) ∙ unset) id
+        ∙ ap Some many
 
-pub flagged-own : (m : PModule) (ports : List PPort) (flags : List Bool) → ports ≡ m.ports → Flagged m ports flags → HasPorts m
-flagged-own m ports flags all flagged =
-    let whole : Flagged m m.ports flags = subst (λ ports. Flagged m ports flags) all flagged in
+    pub placed-more : get_or places place None ≡ None → Placed m (take (i + 1) m.ports) (set places place (Some i))
+    placed-more unset = record {
+      many = length-set places place (Some i) ∙ before.many;
+      there = rw last-port (All-push (λ (p : PPort). IsSome (net_of m p.net)) (take i m.ports) port before.there is_there);
+      differ = rw last-port (all_pairs_push (λ (a b : PPort). a.net ≢ b.net) (take i m.ports) port before.differ (free unset));
+      each = λ k net in_k. ⊎_elim
+          (λ (same : k ≡ place).
+          ap (λ j. get_or (set places place (Some i)) j None) same ∙ get_or-set_same places place (Some i) None (omega (arith, before.many, in_nets))
+          ∙ sym (ap (λ j. position (has_net (get_or m.nets j net).id) (take (i + 1) m.ports)) same ∙ here-more unset net))
+          (λ (apart : k ≡ place → ⊥).
+          get_or-set_other places place k (Some i) None apart ∙ before.each k net in_k
+          ∙ sym (ap (position (has_net (get_or m.nets k net).id)) last-port ∙ position-push_no (has_net (get_or m.nets k net).id) (take i m.ports) port (other-net k net in_k apart)))
+          (cases_eq k place);
+    }
+
+pub placed-own : (m : PModule) (ports : List PPort) (places : List (Option ℕ)) → ports ≡ m.ports → Placed m ports places → HasPorts m
+placed-own m ports places all placed =
+    let whole : Placed m m.ports places = subst (λ ports. Placed m ports places) all placed in
     record { there = whole.there; differ = whole.differ }
 
-pub flagged-tell : (m : PModule) (ports : List PPort) (flags : List Bool) → ports ≡ m.ports → Flagged m ports flags → TellPorts m flags
-flagged-tell m ports flags all flagged =
-    let whole : Flagged m m.ports flags = subst (λ ports. Flagged m ports flags) all flagged in
-    record { many = whole.many; each = λ k net within. whole.each k net within ∙ sym (is_some-find (has_net (get_or m.nets k net).id) m.ports) }
+pub placed-all : (m : PModule) (ports : List PPort) (places : List (Option ℕ)) → ports ≡ m.ports → Placed m ports places → ArePortPlaces m places
+placed-all m ports places all placed =
+    let whole : Placed m m.ports places = subst (λ ports. Placed m ports places) all placed in
+    record { many = whole.many; each = whole.each }
 
--- a leaf has a port for each net where all flags are set
-pub cell-from_flags : (m : PModule) (flags : List Bool) → TellPorts m flags → All (λ flag. IsTrue flag) flags → All (λ (net : PNet). IsSome (port_of m net.id)) m.nets
-cell-from_flags m flags tell set k net within = sym (tell.each k net within) ∙ set k false (omega (arith, tell.many))
+-- the port on a net has a place where there is one
+is_some-place : (m : PModule) (id : NetId) → is_some (port_place m id) ≡ is_some (port_of m id)
+is_some-place m id = by_place (port_place m id) refl
+  where
+    by_place : (o : Option ℕ) → port_place m id ≡ o → is_some (port_place m id) ≡ is_some (port_of m id)
+    by_place None none = ap is_some none ∙ ap is_some (find-from_none (has_net id) m.ports (sym none))
+    by_place (Some k) at =
+        let item = item-there m.ports k (position-within (has_net id) m.ports k (sym at)) in
+        ap is_some at ∙ sym (ap is_some (sym (find-from_place (has_net id) m.ports k (sym at)) ∙ item.1))
 
-pub flags-from_cell : (m : PModule) (flags : List Bool) → TellPorts m flags → All (λ (net : PNet). IsSome (port_of m net.id)) m.nets → All (λ flag. IsTrue flag) flags
-flags-from_cell m flags tell some = All-from_get_or (λ flag. IsTrue flag) flags false (λ k within.
-    let in_nets : k < length m.nets = omega (arith, tell.many) in
+-- a leaf has a port on each net where each net has a place for one
+pub cell-from_places : (m : PModule) (places : List (Option ℕ)) → ArePortPlaces m places → All (λ (place : Option ℕ). IsSome place) places → All (λ (net : PNet). IsSome (port_of m net.id)) m.nets
+cell-from_places m places known some k net within =
+    let id : NetId = (get_or m.nets k net).id in
+    sym (is_some-place m id) ∙ ap is_some (sym (known.each k net within)) ∙ some k None (omega (arith, known.many))
+
+pub places-from_cell : (m : PModule) (places : List (Option ℕ)) → ArePortPlaces m places → All (λ (net : PNet). IsSome (port_of m net.id)) m.nets → All (λ (place : Option ℕ). IsSome place) places
+places-from_cell m places known some = All-from_get_or (λ (place : Option ℕ). IsSome place) places None (λ k within.
+    let in_nets : k < length m.nets = omega (arith, known.many) in
     let net : PNet = (item-there m.nets k in_nets).0 in
-    tell.each k net in_nets ∙ some k net in_nets)
+    ap is_some (known.each k net in_nets) ∙ is_some-place m (get_or m.nets k net).id ∙ some k net in_nets)
+
+-- the place of the port on a net, by the place of the net
+pub port-at : (m : PModule) (places : List (Option ℕ)) (net : NetId) (k : ℕ) → ArePortPlaces m places → Some k ≡ position (λ (x : PNet). x.id.0 == net.0) m.nets → get_or places k None ≡ port_place m net
+port-at m places net k known found =
+    let in_nets : k < length m.nets = position-within (λ (x : PNet). x.id.0 == net.0) m.nets k found in
+    let x : PNet = (item-there m.nets k in_nets).0 in
+    let same : (get_or m.nets k x).id.0 ≡ net.0 = eqb-true (get_or m.nets k x).id.0 net.0 (position-Some (λ (y : PNet). y.id.0 == net.0) m.nets k x (sym found)).1 in
+    known.each k x in_nets ∙ ap (λ n. position (λ (p : PPort). p.net.0 == n) m.ports) same
+
+-- and no port is on a net that isn't there
+pub port-nowhere : (m : PModule) (net : NetId) → HasPorts m → None ≡ position (λ (x : PNet). x.id.0 == net.0) m.nets → None ≡ port_place m net
+port-nowhere m net ports none = sym (position-none (has_net net) m.ports (λ k d within.
+    ne_eqb (get_or m.ports k d).net.0 net.0 (λ same.
+    let there : IsSome (find (λ (x : PNet). x.id.0 == (get_or m.ports k d).net.0) m.nets) = ports.there k d within in
+    let absent : None ≡ find (λ (x : PNet). x.id.0 == (get_or m.ports k d).net.0) m.nets =
+    find-from_none (λ (x : PNet). x.id.0 == net.0) m.nets none ∙ ap (λ n. find (λ (x : PNet). x.id.0 == n) m.nets) (sym same)
+    in
+    absurd (false≢true (rw (← absent) at there)))))

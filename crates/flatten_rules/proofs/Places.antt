@@ -1,12 +1,15 @@
-use Rattle.std.proofs.Common.{◌≡◌, ◌≢◌, ℕ, ◌<◌, ◌≤◌, ◌==◌, nat_lt, Bool, true, false, List, [], ◌∷◌, length, get_or, Some, None, position, find, slice_get, zero, suc, IsSome, IsSomeAnd, IfSome, IfNone, AllPairs, arith, refl, sym, ap, ◌∙◌, Option, Bor, cond, ⊎_elim}
-use Rattle.std.specs.List.{position_or_len}
+use Rattle.std.proofs.Common.{◌≡◌, ◌≢◌, ℕ, ◌<◌, ◌≤◌, ◌==◌, nat_lt, Bool, true, false, List, [], ◌∷◌, ◌++◌, ◌+◌, length, get_or, Some, None, position, find, slice_get, zero, suc, IsSome, IsSomeAnd, IfSome, IfNone, AllPairs, arith, refl, sym, ap, ◌∙◌, Option, Bor, cond, ⊎_elim}
+use Rattle.std.specs.List.{position_or_len, list_any}
 use Rattle.std.specs.Option.{option_copied}
 use Rattle.std.specs.Slice.{IsItemAt}
 use Rattle.std.specs.List.Sorted.{IsPartitionPoint, IsNonDecreasingBy}
-use Rattle.std.proofs.lemmas.Bool.{cases_lt, ltb-false, le-ltb, false≢true}
+use Rattle.std.proofs.lemmas.Bool.{cases_lt, ltb-false, le-ltb, false≢true, false_from_ne_true, both_ways}
 use Rattle.std.proofs.lemmas.Bool.Decides.{nat_tests}
 use Rattle.std.proofs.lemmas.Option.{slice_get_past, slice_get-get_or}
-use Rattle.std.proofs.lemmas.List.Folds.{find_at}
+use Rattle.std.proofs.lemmas.List.{length_push, get_or_push, get_or_append_left}
+use Rattle.std.proofs.lemmas.List.Quantifiers.{position-Some}
+use Rattle.std.proofs.lemmas.List.Folds.{find_at, list_any_at}
+use Rattle.emh_base.proofs.PoolLemmas.{any_absent}
 use Rattle.std.proofs.lemmas.List.Sums.{position_or_len_is}
 
 -- the first item that passes stands at this place
@@ -99,3 +102,33 @@ found-at_place p xs (Some i) at =
 pub found-nowhere : {X : Type 0} (p : X → Bool) (xs : List X) (r : Option ℕ) → r ≡ position p xs → IfNone r (find p xs ≡ None)
 found-nowhere p xs None at = sym (find-from_none p xs at)
 found-nowhere p xs (Some i) at = tt
+
+-- where no item passes, each fails
+pub none-fails : {X : Type 0} (p : X → Bool) (xs : List X) → position p xs ≡ None → (k : ℕ) (d : X) → k < length xs → p (get_or xs k d) ≡ false
+none-fails p xs none k d within =
+    false_from_ne_true (p (get_or xs k d)) (λ passes. both_ways (list_any p xs) (any_absent p xs none) (list_any_at p xs k d within passes))
+
+-- the first item that passes, with one more item that doesn't
+pub position-push_no : {X : Type 0} (p : X → Bool) (xs : List X) (y : X) → p y ≡ false → position p (xs ++ y ∷ []) ≡ position p xs
+position-push_no {X} p xs y fails = by_place (position p xs) refl
+  where
+    by_place : (o : Option ℕ) → position p xs ≡ o → position p (xs ++ y ∷ []) ≡ position p xs
+    by_place None none =
+        position-none p (xs ++ y ∷ []) (λ k d within. ⊎_elim
+        (λ (front : k < length xs). ap p (get_or_append_left xs (y ∷ []) d k front) ∙ none-fails p xs none k d front)
+        (λ (past : length xs ≤ k). let last : k ≡ length xs = omega (arith, length_push xs y) in ap p (get_or_push xs y d k (sym last)) ∙ fails)
+        (cases_lt k (length xs)))
+        ∙ sym none
+    by_place (Some i) at =
+        let here = position-Some p xs i y at in
+        position-at p (xs ++ y ∷ []) i y (omega (arith, here.0, length_push xs y))
+        (λ k below. ap p (get_or_append_left xs (y ∷ []) y k (omega (arith, here.0))) ∙ here.2 k below)
+        (ap p (get_or_append_left xs (y ∷ []) y i here.0) ∙ here.1)
+        ∙ sym at
+
+-- and with one more that does, where none did
+pub position-push_yes : {X : Type 0} (p : X → Bool) (xs : List X) (y : X) → position p xs ≡ None → p y ≡ true → position p (xs ++ y ∷ []) ≡ Some (length xs)
+position-push_yes p xs y none passes =
+    position-at p (xs ++ y ∷ []) (length xs) y (omega (arith, length_push xs y))
+    (λ k below. ap p (get_or_append_left xs (y ∷ []) y k below) ∙ none-fails p xs none k y below)
+    (ap p (get_or_push xs y y (length xs) refl) ∙ passes)

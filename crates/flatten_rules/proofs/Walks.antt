@@ -1,7 +1,7 @@
 -- Walks of instances, and how high modules are.
-use Rattle.std.proofs.Common.{◌≡◌, ℕ, zero, suc, ◌+◌, ◌-◌, ◌==◌, ◌<◌, ◌≤◌, max, Bool, true, false, cond, List, [], ◌∷◌, length, get_or, find, Option, Some, None, option_and_then, IsSome, All, AllPairs, refl, sym, ap, ◌∙◌, arith, ⊎_elim, subst}
+use Rattle.std.proofs.Common.{◌≡◌, ℕ, zero, suc, ◌+◌, ◌-◌, ◌==◌, ◌<◌, ◌≤◌, max, Bool, true, false, cond, List, [], ◌∷◌, length, get_or, find, Option, Some, None, option_and_then, is_some, IsSome, All, AllPairs, refl, sym, ap, ◌∙◌, arith, ⊎_elim, subst}
 use Rattle.std.specs.List.{position_or_len}
-use Rattle.std.proofs.lemmas.Bool.{false≢true, cases_lt}
+use Rattle.std.proofs.lemmas.Bool.{false≢true, true≢false, cases_lt}
 use Rattle.std.proofs.lemmas.Bool.Decides.{nat_tests}
 use Rattle.std.proofs.lemmas.Option.{slice_get-get_or}
 use Rattle.std.proofs.lemmas.List.Folds.{find_at}
@@ -114,6 +114,10 @@ greatest_by-le number bound (x ∷ xs) all = omega (arith, All-head (λ x. numbe
 pub some-there : {X : Type 0} (o : Option X) → IsSome o → (x : X) × (o ≡ Some x)
 some-there None some = absurd (false≢true some)
 some-there (Some x) some = (x, refl)
+
+pub none-there : {X : Type 0} (o : Option X) → is_some o ≡ false → o ≡ None
+none-there None none = refl
+none-there (Some x) none = absurd (true≢false none)
 
 abbrev pub WalksWithin : Plain → ℕ → Type 0
 WalksWithin M limit = (m : ModId) (up : List InstId) → IsSome (module_up M m up) → length up ≤ limit

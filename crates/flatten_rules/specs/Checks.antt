@@ -1,10 +1,11 @@
 -- What the checks of soundness tell one another.
-use Rattle.std.specs.Prelude.{◌≡◌, ◌≢◌, ℕ, ◌<◌, Bool, false, List, ◌++◌, map, length, slice_index_or, is_some, IsSome, All, AllPairs}
+use Rattle.std.specs.Prelude.{◌≡◌, ◌≢◌, ℕ, ◌==◌, ◌<◌, List, ◌++◌, map, length, position, slice_index_or, Option, None, IsSome, All, AllPairs}
+use Rattle.emh_base.specs.declared.ids.NetId.{NetId}
 use Rattle.emh_base.specs.declared.plain.PNet.{PNet}
 use Rattle.emh_base.specs.declared.plain.PPort.{PPort}
 use Rattle.emh_base.specs.declared.plain.PInst.{PInst}
 use Rattle.emh_base.specs.declared.plain.PModule.{PModule}
-use Rattle.flatten_rules.specs.Lookup.{net_of, port_of}
+use Rattle.flatten_rules.specs.Lookup.{net_of}
 use Rattle.flatten_rules.specs.Sound.{IsAllowed}
 
 -- what a look-up of a module's nets rests on: their ids rise below the counter, and their ranges are allowed
@@ -22,8 +23,12 @@ pub record HasPorts (m : PModule) : Type 0 where
 abbrev pub names_in : PModule → List (List ℕ)
 names_in m = map (λ (net : PNet). net.name) m.nets ++ map (λ (inst : PInst). inst.name) m.insts
 
--- a flag for each net tells whether a port has it
-pub record TellPorts (m : PModule) (flags : List Bool) : Type 0 where
-  pub many : length flags ≡ length m.nets
+-- the place of the port on a net
+abbrev pub port_place : PModule → NetId → Option ℕ
+port_place m net = position (λ (port : PPort). port.net.0 == net.0) m.ports
+
+-- for each net of a module, by its place, the place of the port on it
+pub record ArePortPlaces (m : PModule) (places : List (Option ℕ)) : Type 0 where
+  pub many : length places ≡ length m.nets
   pub each : (k : ℕ) (net : PNet) → k < length m.nets
-      → slice_index_or flags k false ≡ is_some (port_of m (slice_index_or m.nets k net).id)
+      → slice_index_or places k None ≡ port_place m (slice_index_or m.nets k net).id

@@ -11,6 +11,7 @@ mod lookup;
 mod master;
 mod named;
 mod numbered;
+mod port;
 mod rank;
 mod reach;
 mod root;

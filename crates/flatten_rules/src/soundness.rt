@@ -5,11 +5,12 @@ ghost use Rattle.emh_base.specs.declared.plain.PNet.{PNet};
 ghost use Rattle.flatten_rules.specs.Sound.{IsSound, IsSoundModule, IsAllowed};
 ghost use Rattle.flatten_rules.specs.Checks.{HasNets, names_in};
 
-use crate::cell::{is_cell_if_leaf, port_flags};
+use crate::cell::is_cell_if_leaf;
 use crate::cycle::first_on_cycle;
 use crate::master::have_masters;
 use crate::named::put_new;
 use crate::numbered::rises;
+use crate::port::port_places;
 use emh_base::{NoMemory, PModule, PNet, Plain, Pool, Range};
 use std::alloc::Global;
 
@@ -107,7 +108,7 @@ fn is_sound_module(alloc: Global, plain: &Plain, holder: &PModule) -> Result<boo
     if !has_own_names(alloc, holder)? {
         return Ok(false);
     }
-    let Some(flags) = port_flags(alloc, holder)? else {
+    let Some(places) = port_places(alloc, holder)? else {
         return Ok(false);
     };
     if !rises(holder.insts.as_slice(), holder.next_inst) {
@@ -116,7 +117,7 @@ fn is_sound_module(alloc: Global, plain: &Plain, holder: &PModule) -> Result<boo
     if !have_masters(plain, holder) {
         return Ok(false);
     }
-    Ok(is_cell_if_leaf(holder, &flags))
+    Ok(is_cell_if_leaf(holder, &places))
 }
 
 /// Whether no two nets or instances of a module have one name.

@@ -6,7 +6,7 @@ use Rattle.flatten_rules.proofs.soundness.is_sound_module.Goals as goal
 pub returns : goal.returns
 returns c =
     let m = c.args.holder.now in
-    let ports : HasPorts m = c.in_ok-flags.ensures.own.0 (rw c.in-Some.is refl) in
+    let ports : HasPorts m = c.in_ok-places.ensures.own.0 (rw c.in-Some.is refl) in
     let insts = rw c.as_slice.ensures at (c.rises.ensures.0 c.if-not-rises.false) in (
       λ cell. record {
         names = c.in_ok-has_own_names.ensures.0 c.if-not-branch.false;
