@@ -1,5 +1,6 @@
 pub mod Words
 pub mod Passing
+pub mod Reserved
 pub mod Spelled
 pub mod Left
 pub mod Sentences

@@ -1,0 +1,67 @@
+ghost use Rattle.std.specs.Prelude.{◌≡◌, Bool, true};
+ghost use Rattle.emh_base.specs.Name.{IsName};
+ghost use Rattle.vlog_lex.specs.declared.token.TokenKind.TheVariants.{Mark, Reserved};
+ghost use Rattle.vlog_read.specs.declared.fault.ParseFault.TheVariants.{Unsupported};
+ghost use Rattle.vlog_read.specs.Words.{is_used_word, is_unread_mark};
+ghost use Rattle.vlog_read.specs.Sentence.{fault_of, fault_at};
+ghost use Rattle.vlog_read.specs.Machine.Reads.{is_real};
+
+use crate::fault::ParseFault;
+use crate::word;
+use emh_base::{Name, NameFault};
+use std::alloc::Global;
+use vlog_lex::{Token, TokenKind};
+use word_table::reserved_words;
+
+/// The fault at a token that may not stand where it does.
+pub fn fault_at(alloc: Global, token: &Token) -> ParseFault
+    ensures { is_real result ≡ true → result ≡ fault_at token.now }
+{
+    match token.kind {
+        TokenKind::Reserved(row) => at_word(alloc, token.at, row),
+        TokenKind::Mark(byte) => at_mark(alloc, token.at, byte),
+        TokenKind::Ident(_) => ParseFault::Unexpected { at: token.at },
+        TokenKind::Cell => ParseFault::Unexpected { at: token.at },
+        TokenKind::EndCell => ParseFault::Unexpected { at: token.at },
+        TokenKind::Number(_) => ParseFault::Unexpected { at: token.at },
+        TokenKind::Literal { .. } => ParseFault::Unexpected { at: token.at },
+    }
+}
+
+/// The fault at the reserved word of a row.
+#[tactic(auto, using(crate::proofs::Reserved::reserved_is_name, crate::proofs::Reserved::past_reserved))]
+fn at_word(alloc: Global, at: u32, row: u16) -> ParseFault
+    ensures { is_real result ≡ true → result ≡ fault_of (Reserved row) at }
+{
+    if word::is_used(row) {
+        return ParseFault::Unexpected { at };
+    }
+    if row >= 124 {
+        return ParseFault::Unexpected { at };
+    }
+    unsupported(alloc, at, reserved_words().at(row))
+}
+
+/// The fault at a mark.
+fn at_mark(alloc: Global, at: u32, byte: u8) -> ParseFault
+    ensures { is_real result ≡ true → result ≡ fault_of (Mark byte) at }
+{
+    match byte {
+        b'#' | b'=' | b'.' | b'[' | b'{' => unsupported(alloc, at, &[byte]),
+        _ => ParseFault::Unexpected { at },
+    }
+}
+
+/// The fault at a token of a part of the language that isn't read.
+fn unsupported(alloc: Global, at: u32, text: &[u8]) -> ParseFault
+    requires { IsName text.now }
+    ensures { is_real result ≡ true → result ≡ Unsupported at text.now }
+{
+    match Name::new(alloc, text) {
+        Ok(word) => ParseFault::Unsupported { at, word },
+        Err(NameFault::NoMemory) => ParseFault::NoMemory,
+        Err(NameFault::Empty) => unreachable!("a word has a byte"),
+        Err(NameFault::TooLong) => unreachable!("a word is short"),
+        Err(NameFault::BadByte { .. }) => unreachable!("a word is printable"),
+    }
+}
