@@ -1,4 +1,9 @@
+pub mod Laws
 pub mod Name
+pub mod Path
+pub mod Places
 pub mod Pool
+pub mod Rule
+pub mod Spelling
 pub mod Text
 pub mod TwoLevel

@@ -1,6 +1,7 @@
 use super::{
-    Conn, Dir, InstId, List, ModId, Name, NameFault, NetId, PInst, PModule, PNet, PPort, Path,
-    Plain, Pool, Range, Src, TryCopy, push_index, push_spelled,
+    By, Change, Conn, Dir, Edit, Fanout, InstId, Kind, List, ModId, Name, NameFault, NetId, Orient,
+    PInst, PModule, PNet, PPort, Path, Placement, Places, Plain, Pool, Range, Settings, SpellFault,
+    Src, State, Status, TryCopy, push_index, push_spelled, unspell,
 };
 use std::alloc::Global;
 use std::test::Fail;
@@ -81,6 +82,87 @@ fn texts_mark_what_would_be_read_otherwise(rt: HostRuntime) -> Result<(), Fail> 
     Ok(())
 }
 
+#[test]
+fn a_word_spells_one_name_or_none(rt: HostRuntime) -> Result<(), Fail> {
+    let spelled: [(&[u8], &[u8]); 8] = [
+        (b"u1", b"u1"),
+        (b"bus\\[3\\]", b"bus[3]"),
+        (b"\\=a=b", b"=a=b"),
+        (b"a=", b"a="),
+        (b"x\\.y\\/z", b"x.y/z"),
+        (b"\\\\", b"\\"),
+        (&[b'~'; 1024], &[b'~'; 1024]),
+        (b"\\\\\\.", b"\\."),
+    ];
+    for (word, name) in spelled {
+        assert_eq!(rt; unspell(rt.alloc(), word)?.as_bytes(), name);
+    }
+    let words: [&[u8]; 12] = [
+        b"",
+        b"=",
+        b"a/b",
+        b"n[3]",
+        b"x]",
+        b"u.A",
+        b"\\",
+        b"a\\",
+        b"\\a",
+        b"a\\=",
+        b"a b",
+        &[b'!'; 1025],
+    ];
+    for word in words {
+        match unspell(rt.alloc(), word) {
+            Ok(_) => assert!(rt; false, "{word:?} spells a name"),
+            Err(fault) => assert_eq!(rt; fault, SpellFault::NotSpelled),
+        }
+    }
+    Ok(())
+}
+
+fn path_of(alloc: Global, steps: &[u32]) -> Result<Path, Fail> {
+    let mut path = Path::new(alloc);
+    for step in steps {
+        path.push(InstId(*step))?;
+    }
+    Ok(path)
+}
+
+fn at(x: i32) -> Placement {
+    Placement {
+        x,
+        y: -7,
+        orient: Orient::MXR90,
+        status: Status::Fixed,
+    }
+}
+
+#[test]
+fn places_hold_one_placement_a_path(rt: HostRuntime) -> Result<(), Fail> {
+    let alloc = rt.alloc();
+    let mut places = Places::new(alloc);
+    assert!(rt; places.is_empty());
+    let cases: [(&[u32], i32); 5] = [(&[2], 1), (&[1, 9], 2), (&[1], 3), (&[10], 4), (&[2], 5)];
+    for (steps, x) in cases {
+        places.set(path_of(alloc, steps)?, at(x))?;
+        assert_eq!(rt; places.get(&path_of(alloc, steps)?), Some(at(x)));
+    }
+    assert_eq!(rt; places.len(), 4);
+    assert_eq!(rt; places.get(&path_of(alloc, &[9])?), None);
+    places.remove(&path_of(alloc, &[1])?);
+    places.remove(&path_of(alloc, &[])?);
+    let rising: [(&[u32], i32); 3] = [(&[1, 9], 2), (&[2], 5), (&[10], 4)];
+    let list = places.copy()?.to_list()?;
+    assert_eq!(rt; list.len(), 3);
+    for (place, (steps, x)) in rising.iter().enumerate() {
+        let (path, placement) = list.get(place).ok_or("too few")?;
+        assert!(rt; *path == path_of(alloc, steps)?);
+        assert_eq!(rt; *placement, at(*x));
+    }
+    assert!(rt; path_of(alloc, &[1])? < path_of(alloc, &[1, 0])?);
+    Ok(())
+}
+
 fn one_instance(alloc: Global) -> Result<Plain, Fail> {
     let mut bits = List::new(alloc);
     bits.push(Src::Bit(NetId(2), 5))?;
@@ -150,5 +232,76 @@ fn a_copy_of_a_table_has_all_that_the_table_has(rt: HostRuntime) -> Result<(), F
         path.push(InstId(step))?;
     }
     assert_eq!(rt; path.copy()?.steps(), path.steps());
+    Ok(())
+}
+
+fn connect(alloc: Global) -> Result<Edit, Fail> {
+    let mut bits = List::new(alloc);
+    bits.push(Src::Bit(NetId(6), 7))?;
+    Ok(Edit::Connect {
+        module: ModId(1),
+        inst: InstId(2),
+        port: NetId(4),
+        bits,
+    })
+}
+
+#[test]
+fn a_copy_of_a_change_has_all_that_the_change_has(rt: HostRuntime) -> Result<(), Fail> {
+    let mut was = List::new(rt.alloc());
+    was.push(Conn::Open)?;
+    let change = Change {
+        edit: connect(rt.alloc())?,
+        by: By::Watch(3),
+        was,
+        made: Some(8),
+    };
+    let copy = change.copy()?;
+    assert_eq!(rt;
+        (copy.by, copy.made, copy.was.len()),
+        (By::Watch(3), Some(8), 1)
+    );
+    match &copy.edit {
+        Edit::Connect { port, bits, .. } => {
+            assert_eq!(rt; *port, NetId(4));
+            assert_eq!(rt; bits.get(0), Some(&Src::Bit(NetId(6), 7)));
+        }
+        _ => assert!(rt; false, "it was a connect"),
+    }
+    Ok(())
+}
+
+const SETTINGS: Settings = Settings {
+    fanout: Some(Fanout {
+        max: 12,
+        cell: ModId(5),
+    }),
+    grid: None,
+};
+
+#[test]
+fn a_copy_of_a_state_has_all_that_the_state_has(rt: HostRuntime) -> Result<(), Fail> {
+    let mut places = Places::new(rt.alloc());
+    places.set(path_of(rt.alloc(), &[4])?, at(6))?;
+    let state = State {
+        plain: one_instance(rt.alloc())?,
+        top: ModId(3),
+        places,
+        settings: SETTINGS,
+    };
+    let copy = state.copy()?;
+    assert_eq!(rt; (copy.top, copy.settings), (ModId(3), SETTINGS));
+    assert_eq!(rt; copy.plain.modules.len(), 1);
+    assert_eq!(rt; copy.places.get(&path_of(rt.alloc(), &[4])?), Some(at(6)));
+    Ok(())
+}
+
+#[test]
+fn a_copy_of_a_kind_asks_for_the_same(rt: HostRuntime) -> Result<(), Fail> {
+    let kind = Kind::Where(Name::new(rt.alloc(), b"w")?);
+    match &kind.copy()? {
+        Kind::Where(name) => assert_eq!(rt; name.as_bytes(), b"w".as_slice()),
+        _ => assert!(rt; false, "it was a module's places"),
+    }
     Ok(())
 }

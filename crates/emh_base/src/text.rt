@@ -53,7 +53,8 @@ impl Range {
     }
 }
 
-fn is_special(byte: u8) -> bool
+/// Whether a byte is one that is marked wherever it stands in a name.
+pub fn is_special(byte: u8) -> bool
     ensures { result ≡ is_special byte }
 {
     byte == b'/' || byte == b'[' || byte == b']' || byte == b'.' || byte == b'\\'

@@ -13,13 +13,11 @@ use Rattle.emh_base.specs.declared.plain.PModule.{PModule}
 use Rattle.emh_base.specs.declared.plain.Plain.{Plain}
 use Rattle.flatten_rules.specs.Lookup.{module_of, net_of, inst_of}
 use Rattle.flatten_rules.specs.Unfolding.{unfolded, module_up, inst_up}
-use Rattle.emh_shell.specs.Pins.{port_lines, leaf_lines, occurrence_lines, pins_text}
+use Rattle.emh_shell.specs.Pins.{pins_text}
+use Rattle.emh_shell.specs.Lines.{port_lines, leaf_lines, occurrence_lines}
+use Rattle.emh_shell.proofs.LinesLemmas.{flat_map-flat_map, pins_text-by_occurrence}
 use Rattle.emh_shell.specs.Way.{IsWay, ids_of, path_of, lines_below}
 use Rattle.emh_shell.specs.declared.way.Step.{Step}
-
-flat_map-flat_map : {X Y Z : Type 0} (f : Y → List Z) (g : X → List Y) (xs : List X) → flat_map f (flat_map g xs) ≡ flat_map (λ x. flat_map f (g x)) xs
-flat_map-flat_map f g [] = refl
-flat_map-flat_map f g (x ∷ xs) = flat_map-append f (g x) (flat_map g xs) ∙ ap (λ rest. flat_map f (g x) ++ rest) (flat_map-flat_map f g xs)
 
 -- a module that isn't there has no lines
 pub none-below : (M : Plain) (top : ModId) (path : List InstId) (id : ModId) (levels : ℕ) → module_of M id ≡ None → flat_map (occurrence_lines M top) (unfolded M path id levels) ≡ []
@@ -112,3 +110,4 @@ report-all M top way m start end none empty there lines =
     ∙ ap (λ x. x ++ lines_below M top (path_of way) m 257) empty
     ∙ ap (λ x. lines_below M top (path_of x) m 257) none
     ∙ lines_below-there M top [] top m 257 there
+    ∙ sym (pins_text-by_occurrence M top)

@@ -1,3 +1,4 @@
+pub mod LinesLemmas
 pub mod WayLemmas
 pub mod PlaceLemmas
 pub mod TextLemmas
@@ -5,6 +6,7 @@ pub mod BelowLemmas
 pub mod ScriptLemmas
 pub mod GainsLemmas
 pub mod OpenLemmas
+pub mod PlainNames
 pub mod PlainSound
 pub mod Playing
 pub mod FetchLemmas

@@ -1,11 +1,14 @@
-use Rattle.std.proofs.Common.{◌≡◌, ℕ, ◌+◌, ◌<◌, ◌≤◌, true, false, not, List, [], ◌∷◌, ◌++◌, drop, length, get_or, Some, None, Result, Ok, Err, position, refl, sym, ap, ◌∙◌, suc, arith, append_assoc, add-one, drop-cons}
-use Rattle.std.specs.List.{list_all, position_or_len}
+use Rattle.std.proofs.Common.{◌≡◌, ℕ, ◌+◌, ◌-◌, ◌==◌, ◌<◌, ◌≤◌, Bool, true, false, not, List, [], ◌∷◌, ◌++◌, take, drop, length, slice_index, get_or, Some, None, Result, Ok, Err, position, refl, sym, ap, ◌∙◌, suc, arith, append_assoc, add-one, drop-cons}
+use Rattle.std.specs.List.{list_all, count_by, position_or_len}
 use Rattle.std.proofs.lemmas.Bool.{false_from_ne_true, le-ltb, and_right}
+use Rattle.std.proofs.lemmas.List.{length_push, get_or_push}
+use Rattle.std.proofs.lemmas.List.Splits.{length-slice_split}
+use Rattle.std.proofs.Math.Seq.{take-append_seam}
 use Rattle.emh_base.specs.Name.{is_name_byte}
 use Rattle.emh_shell.specs.declared.command.Command.{Command}
 use Rattle.emh_shell.specs.declared.fault.ScriptFault.{ScriptFault}
 use Rattle.emh_shell.specs.declared.fault.ScriptFault.TheVariants.{BadLine}
-use Rattle.emh_shell.specs.Script.{is_name, words_of, command_of, commands_of, with_front}
+use Rattle.emh_shell.specs.Script.{is_name, without_newline, lines_of, words_of, command_of, commands_of, with_front}
 
 -- bytes that all fit have no first that doesn't
 all_fit : (bytes : List ℕ) → list_all is_name_byte bytes ≡ true → length bytes ≤ position_or_len (λ byte. not (is_name_byte byte)) bytes
@@ -39,3 +42,28 @@ commands_of-more lines at line front command h within here some =
     sym (with_front-with_front front command (commands_of (at + 1 + 1) (drop (at + 1) lines)))
     ∙ sym (let step : commands_of (at + 1) (drop at lines) ≡ with_front (command ∷ []) (commands_of (at + 1 + 1) (drop (at + 1) lines)) = rw (line-here lines at line within here, ← some) refl in ap (with_front front) step)
     ∙ h
+
+abbrev ends_line : ℕ → Bool
+ends_line byte = byte == 10
+
+lines-of_text : (bytes : List ℕ) → 0 < length bytes → length (lines_of bytes) ≡ count_by ends_line (without_newline bytes) + 1
+lines-of_text [] some = absurd (omega arith)
+lines-of_text (byte ∷ bytes) some = length-slice_split ends_line (without_newline (byte ∷ bytes))
+
+-- how many lines there are, by the newlines in the text before the last one
+pub lines-ended : (bytes text : List ℕ) (last : ℕ) → bytes ≡ text ++ last ∷ [] → (last == 10) ≡ true → length (lines_of bytes) ≡ count_by ends_line text + 1
+lines-ended bytes text last is ends =
+    let all : length bytes ≡ length text + 1 = ap length is ∙ length_push text last in
+    let end : length bytes - 1 ≡ length text = omega (arith, all) in
+    let at : slice_index bytes (length bytes - 1) ≡ last = ap (λ (xs : List ℕ). slice_index xs (length bytes - 1)) is ∙ get_or_push text last 0 (length bytes - 1) (sym end) in
+    let front : take (length bytes - 1) bytes ≡ text = ap (λ n. take n bytes) end ∙ ap (take (length text)) is ∙ take-append_seam text (last ∷ []) in
+    let cut : without_newline bytes ≡ text = rw (at, ends) front in
+    lines-of_text bytes (omega (arith, all)) ∙ ap (λ xs. count_by ends_line xs + 1) cut
+
+pub lines-open : (bytes text : List ℕ) (last : ℕ) → bytes ≡ text ++ last ∷ [] → (last == 10) ≡ false → length (lines_of bytes) ≡ count_by ends_line bytes + 1
+lines-open bytes text last is goes_on =
+    let all : length bytes ≡ length text + 1 = ap length is ∙ length_push text last in
+    let end : length bytes - 1 ≡ length text = omega (arith, all) in
+    let at : slice_index bytes (length bytes - 1) ≡ last = ap (λ (xs : List ℕ). slice_index xs (length bytes - 1)) is ∙ get_or_push text last 0 (length bytes - 1) (sym end) in
+    let whole : without_newline bytes ≡ bytes = rw (at, goes_on) refl in
+    lines-of_text bytes (omega (arith, all)) ∙ ap (λ xs. count_by ends_line xs + 1) whole

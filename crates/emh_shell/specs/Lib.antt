@@ -1,5 +1,6 @@
 pub mod Opened
 pub mod Pins
+pub mod Lines
 pub mod Texts
 pub mod Script
 pub mod Load

@@ -25,17 +25,18 @@ words_of line = slice_split (λ byte. byte == 32) line
 abbrev pub is_name : List ℕ → Bool
 is_name bytes = nat_le 1 (length bytes) && nat_le (length bytes) 1024 && list_all is_name_byte bytes
 
-abbrev pub is_letter : ℕ → Bool
-is_letter byte = (nat_le 65 byte && nat_le byte 90) || (nat_le 97 byte && nat_le byte 122) || byte == 95
+-- a letter or _
+abbrev pub begins_word : ℕ → Bool
+begins_word byte = (nat_le 65 byte && nat_le byte 90) || (nat_le 97 byte && nat_le byte 122) || byte == 95
 
 -- a letter, a digit, _ or $
 abbrev pub continues : ℕ → Bool
-continues byte = is_letter byte || (nat_le 48 byte && nat_le byte 57) || byte == 36
+continues byte = begins_word byte || (nat_le 48 byte && nat_le byte 57) || byte == 36
 
 -- a letter or _, then letters, digits, _ and $
 abbrev pub is_identifier : List ℕ → Bool
 is_identifier [] = false
-is_identifier (first ∷ others) = is_letter first && list_all continues others
+is_identifier (first ∷ others) = begins_word first && list_all continues others
 
 -- `report pins`, behind its first word
 abbrev pub report_of : List (List ℕ) → Option Command

@@ -13,7 +13,8 @@ use Rattle.emh_base.specs.Text.{front_text, spell, index_text}
 use Rattle.flatten_rules.specs.Lookup.{module_of}
 use Rattle.flatten_rules.specs.Sound.{IsSoundModule}
 use Rattle.flatten_rules.specs.Unfolding.{inst_up, unfolded}
-use Rattle.emh_shell.specs.Pins.{names_up, leaf_lines, occurrence_lines}
+use Rattle.flatten_rules.specs.Texts.{names_up}
+use Rattle.emh_shell.specs.Lines.{leaf_lines, occurrence_lines}
 use Rattle.emh_shell.specs.declared.way.Step.{Step}
 
 abbrev pub Places : Type 0

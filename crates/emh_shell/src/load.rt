@@ -3,6 +3,7 @@ ghost use Rattle.std.specs.Option.{option_copied};
 ghost use Rattle.emh_base.specs.declared.ids.ModId.{ModId};
 ghost use Rattle.vlog_plain.specs.PlainFile.{IsPlainFile};
 ghost use Rattle.flatten_rules.specs.Sound.{IsSound};
+ghost use Rattle.flatten_rules.specs.Order.{MastersFirst};
 ghost use Rattle.flatten_rules.specs.Design.{Opens, module_named};
 ghost use Rattle.emh_shell.specs.Load.{IsReading, inner_id};
 
@@ -30,7 +31,8 @@ pub fn open_file(alloc: Global, bytes: &[u8], top: &Name) -> Result<LoadReply, N
 /// The design of a table at the named top, or none: exactly where the table has no such module, where it is a leaf, or
 /// where the table isn't within the limits at it.
 pub fn open_design(alloc: Global, plain: Plain, top: &Name) -> Result<Option<Design>, NoMemory>
-    requires { IsSound plain }
+    requires sound { IsSound plain }
+    requires order { MastersFirst plain }
     ensures { IfOk result (λ opened. MatchOption opened ((id : ModId) → ¬ Opens plain top.now id)
         (λ design. (design.plain ≡ plain) × Opens plain top.now design.top)) }
 {

@@ -6,7 +6,9 @@ ghost use Rattle.flatten_rules.specs.Lookup.{net_of};
 ghost use Rattle.flatten_rules.specs.Sound.{IsAllowed, IsSoundModule};
 ghost use Rattle.flatten_rules.specs.Unfolding.{unfolded, module_up, inst_up};
 ghost use Rattle.flatten_rules.specs.Root.{pin_root};
-ghost use Rattle.emh_shell.specs.Pins.{names_up, root_text, pin_line, port_lines, leaf_lines, occurrence_lines, pins_text};
+ghost use Rattle.emh_shell.specs.Pins.{root_text, pins_text};
+ghost use Rattle.flatten_rules.specs.Texts.{names_up};
+ghost use Rattle.emh_shell.specs.Lines.{net_line, port_lines, leaf_lines, occurrence_lines};
 ghost use Rattle.emh_shell.specs.Way.{HasPlaces, HasAllPlaces, IsWay, ids_of, path_of, or_place, lines_below};
 
 use crate::design::Design;
@@ -100,7 +102,7 @@ fn push_pin_line(
     requires way { IsWay design.now.plain design.now.top (reverse way.now) front.now }
     requires below { 0 < length way.now }
     ensures { OnOk result (out.new ≡ out.old
-        ++ pin_line design.now.plain design.now.top (ids_of (reverse way.now)) net.now offset) }
+        ++ net_line design.now.plain design.now.top (ids_of (reverse way.now)) net.now offset) }
 {
     push_pin(front, net, offset, out)?;
     out.push(b' ')?;

@@ -1,7 +1,7 @@
 ghost use Rattle.std.specs.Prelude.{◌≡◌, ◌==◌, ◌+◌, ◌≤◌, ◌<◌, ◌^◌, length, map, reverse, IfOk, Some, None, if◌then◌else◌, ◌&&◌};
-ghost use Rattle.std.specs.List.{list_all, slice_split};
+ghost use Rattle.std.specs.List.{list_all, count_by, slice_split};
 ghost use Rattle.emh_shell.specs.declared.command.Command.TheVariants.{Load};
-ghost use Rattle.emh_shell.specs.Script.{is_name, is_letter, is_identifier, lines_of, words_of, report_of, load_of, command_of, commands_of, continues, script_of, IsScriptAnswer};
+ghost use Rattle.emh_shell.specs.Script.{is_name, begins_word, is_identifier, lines_of, words_of, report_of, load_of, command_of, commands_of, continues, script_of, IsScriptAnswer};
 ghost use Rattle.emh_shell.specs.Texts.{texts};
 
 use crate::command::Command;
@@ -15,11 +15,33 @@ pub fn read_script(alloc: Global, bytes: &[u8]) -> Result<List<Command>, ScriptF
     ensures answer { IsScriptAnswer (script_of bytes.now) result }
     ensures few { IfOk result (λ commands. length commands ≤ 1000000) }
 {
-    let lines = read_lines(alloc, bytes)?;
-    if lines.len() > LINE_LIMIT {
+    if line_count(bytes) > LINE_LIMIT {
         return Err(ScriptFault::TooManyLines);
     }
+    let lines = read_lines(alloc, bytes)?;
     read_commands(alloc, lines.as_slice())
+}
+
+/// The number of lines, counted before memory is taken for them.
+fn line_count(bytes: &[u8]) -> usize
+    ensures { result ≡ length (lines_of bytes.now) }
+{
+    match bytes.split_last() {
+        None => 0,
+        Some((last, text)) => {
+            if *last == b'\n' {
+                return newlines(text) + 1;
+            }
+            newlines(bytes) + 1
+        }
+    }
+}
+
+fn newlines(bytes: &[u8]) -> usize
+    ensures value { result ≡ count_by (λ byte. byte == 10) bytes.now }
+    ensures few { result ≤ length bytes.now }
+{
+    bytes.iter().filter(|byte| **byte == b'\n').count()
 }
 
 fn pieces(alloc: Global, bytes: &[u8], mark: u8) -> Result<Vec<&[u8]>, AllocError>
@@ -127,7 +149,7 @@ fn is_identifier(word: &[u8]) -> bool
 {
     match word {
         [] => false,
-        [first, others @ ..] => is_letter(*first) && all_continue(others),
+        [first, others @ ..] => begins_word(*first) && all_continue(others),
     }
 }
 
@@ -137,8 +159,8 @@ fn all_continue(bytes: &[u8]) -> bool
     bytes.iter().all(|byte| continues(*byte))
 }
 
-fn is_letter(byte: u8) -> bool
-    ensures { result ≡ is_letter byte }
+fn begins_word(byte: u8) -> bool
+    ensures { result ≡ begins_word byte }
 {
     byte.is_ascii_uppercase() || byte.is_ascii_lowercase() || byte == b'_'
 }
@@ -146,5 +168,5 @@ fn is_letter(byte: u8) -> bool
 fn continues(byte: u8) -> bool
     ensures { result ≡ continues byte }
 {
-    is_letter(byte) || byte.is_ascii_digit() || byte == b'$'
+    begins_word(byte) || byte.is_ascii_digit() || byte == b'$'
 }

@@ -1,5 +1,5 @@
 -- The extents of the first modules of a table, and the module after them.
-use Rattle.std.proofs.Common.{◌≡◌, ℕ, ◌<◌, ◌≤◌, List, [], ◌∷◌, ◌++◌, length, get_or, slice_get, Option, Some, None, IsSomeAnd, refl, sym, ap, ◌∙◌, subst, arith, ⊎_elim}
+use Rattle.std.proofs.Common.{◌≡◌, ℕ, ◌<◌, ◌≤◌, List, [], ◌∷◌, ◌++◌, length, get_or, slice_get, Option, Some, None, IsSomeAnd, All, refl, sym, ap, ◌∙◌, subst, arith, ⊎_elim}
 use Rattle.std.proofs.lemmas.Bool.{cases_lt}
 use Rattle.std.proofs.lemmas.Option.{slice_get_within, get_or_from_slice_get}
 use Rattle.std.proofs.lemmas.List.{length_push, get_or_push, get_or_append_left, get_or_default}
@@ -10,6 +10,7 @@ use Rattle.emh_base.specs.declared.plain.Plain.{Plain}
 use Rattle.flatten_rules.specs.declared.extent.Extent.{Extent}
 use Rattle.flatten_rules.specs.Lookup.{module_of}
 use Rattle.flatten_rules.specs.Sound.{IsSound, IsSoundModule}
+use Rattle.flatten_rules.specs.Order.{MastersFirst}
 use Rattle.flatten_rules.specs.Extent.{IsExtent, AreExtents}
 use Rattle.flatten_rules.proofs.Walks.{find-own, id-of_found}
 
@@ -37,10 +38,15 @@ module _ (M : Plain) (sound : IsSound M) (next : ℕ) (m : PModule) (room : next
   pub next-sound : IsSoundModule M m
   next-sound = subst (IsSoundModule M) (sym at) (sound.modules next m room)
 
+  next-order : MastersFirst M → All (λ (inst : PInst). inst.master.0 < m.id.0) m.insts
+  next-order order =
+      let First : PModule → Type 0 = λ x. All (λ (inst : PInst). inst.master.0 < x.id.0) x.insts in
+      subst First (sym at) (order next m room)
+
   -- the masters of its instances come before it, and so before all that come after
-  pub master-before : (inst : PInst) (i : ℕ) → i < length m.insts → inst ≡ get_or m.insts i inst → (k : ℕ) (x : PModule) → next ≤ k → k < length M.modules → inst.master.0 < (get_or M.modules k x).id.0
-  master-before inst i within is k x from to =
-      let lower : (get_or m.insts i inst).master.0 < m.id.0 = (next-sound.masters i inst within).1 in
+  pub master-before : MastersFirst M → (inst : PInst) (i : ℕ) → i < length m.insts → inst ≡ get_or m.insts i inst → (k : ℕ) (x : PModule) → next ≤ k → k < length M.modules → inst.master.0 < (get_or M.modules k x).id.0
+  master-before order inst i within is k x from to =
+      let lower : (get_or m.insts i inst).master.0 < m.id.0 = next-order order i inst within in
       let master : inst.master.0 ≡ (get_or m.insts i inst).master.0 = ap (λ (y : PInst). y.master.0) is in
       let own : m.id.0 ≡ (get_or M.modules next x).id.0 = ap (λ (y : PModule). y.id.0) (at ∙ get_or_default M.modules next m x room) in
       ⊎_elim (λ (below : next < k). omega (arith, sound.rise next k x below to))

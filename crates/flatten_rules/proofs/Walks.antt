@@ -8,15 +8,17 @@ use Rattle.std.proofs.lemmas.List.Folds.{find_at}
 use Rattle.std.proofs.lemmas.List.Sums.{position_or_len_is}
 use Rattle.std.proofs.lemmas.List.Elements.{All-tail, All-head}
 use Rattle.emh_base.specs.declared.ids.ModId.{ModId}
+use Rattle.emh_base.specs.declared.ids.NetId.{NetId}
 use Rattle.emh_base.specs.declared.ids.InstId.{InstId}
+use Rattle.emh_base.specs.declared.plain.PNet.{PNet}
 use Rattle.emh_base.specs.declared.plain.PInst.{PInst}
 use Rattle.emh_base.specs.declared.plain.PModule.{PModule}
 use Rattle.emh_base.specs.declared.plain.Plain.{Plain}
-use Rattle.flatten_rules.specs.Lookup.{module_of, inst_of}
+use Rattle.flatten_rules.specs.Lookup.{module_of, net_of, inst_of}
 use Rattle.flatten_rules.specs.Unfolding.{module_up}
 use Rattle.flatten_rules.specs.Sound.{IsSound, IsSoundModule}
 use Rattle.flatten_rules.specs.Extent.{greatest_by, height}
-use Rattle.flatten_rules.proofs.Sound.{sound-module}
+use Rattle.flatten_rules.proofs.Sound.{sound-module, master-there}
 
 -- in a list in rising order an item is found by its number
 pub find-own : {X : Type 0} (number : X → ℕ) (xs : List X) → AllPairs (λ a b. number a < number b) xs → (k : ℕ) (d : X) → k < length xs → find (λ x. number x == number (get_or xs k d)) xs ≡ Some (get_or xs k d)
@@ -46,6 +48,13 @@ id-of_found M id m found =
     let make : ℕ → ModId = λ n. record { 0 = n } in
     ap make same
 
+-- and a net too
+pub id-of_net : (m : PModule) (id : NetId) (net : PNet) → net_of m id ≡ Some net → net.id ≡ id
+id-of_net m id net found =
+    let same : net.id.0 ≡ id.0 = let passes = (find-greatest (λ x. x.id.0 == id.0) (λ x. 0) m.nets net found).0 in grind (arith, nat_tests) in
+    let make : ℕ → NetId = λ n. record { 0 = n } in
+    ap make same
+
 pub found-own : (M : Plain) (id : ModId) (m : PModule) → module_of M id ≡ Some m → module_of M m.id ≡ Some m
 found-own M id m found = let Found : ModId → Type 0 = λ at. module_of M at ≡ Some m in subst Found (sym (id-of_found M id m found)) found
 
@@ -54,14 +63,14 @@ unfolding height
 height-step M m levels found = rw found refl
 
 -- one step of a walk
-record Step (M : Plain) (top : ModId) (i : InstId) (up : List InstId) (m : PModule) : Type 0 where
-  holder : PModule
-  above : module_up M top up ≡ Some holder
-  inst : PInst
-  found : inst_of holder i ≡ Some inst
-  master : module_of M inst.master ≡ Some m
+pub record Step (M : Plain) (top : ModId) (i : InstId) (up : List InstId) (m : PModule) : Type 0 where
+  pub holder : PModule
+  pub above : module_up M top up ≡ Some holder
+  pub inst : PInst
+  pub found : inst_of holder i ≡ Some inst
+  pub master : module_of M inst.master ≡ Some m
 
-last_step : (M : Plain) (top : ModId) (i : InstId) (up : List InstId) (m : PModule) → module_up M top (i ∷ up) ≡ Some m → Step M top i up m
+pub last_step : (M : Plain) (top : ModId) (i : InstId) (up : List InstId) (m : PModule) → module_up M top (i ∷ up) ≡ Some m → Step M top i up m
 unfolding module_up
 last_step M top i up m leads =
     let by_inst = and_then-some (λ (inst : PInst). module_of M inst.master) (option_and_then (λ (x : PModule). inst_of x i) (module_up M top up)) m leads in
@@ -69,7 +78,7 @@ last_step M top i up m leads =
     record { holder = by_holder.0; above = by_holder.1; inst = by_inst.0; found = by_holder.2; master = by_inst.2 }
 
 -- the module at the end of a walk is in the table
-up-own : (M : Plain) (top : ModId) (up : List InstId) (m : PModule) → module_up M top up ≡ Some m → module_of M m.id ≡ Some m
+pub up-own : (M : Plain) (top : ModId) (up : List InstId) (m : PModule) → module_up M top up ≡ Some m → module_of M m.id ≡ Some m
 unfolding module_up
 up-own M top [] m leads = found-own M top m leads
 up-own M top (i ∷ up) m leads = let step = last_step M top i up m leads in found-own M step.inst.master m step.master
@@ -113,7 +122,7 @@ end-within M limit sound walks (suc levels) top up m leads =
     let Below : PInst → Type 0 = λ (inst : PInst). suc (height M inst.master levels) ≤ limit - length up in
     let each : All Below m.insts = λ k d within.
     let inst : PInst = get_or m.insts k d in
-    let there = some-there (module_of M inst.master) (sound_m.masters k d within).0 in
+    let there = some-there (module_of M inst.master) (master-there M m inst (sound_m.masters k d within)) in
     let x : PModule = there.0 in
     let down : module_up M top (inst.id ∷ up) ≡ Some x = rw (leads, find-own (λ (inst : PInst). inst.id.0) m.insts sound_m.insts_rise k d within) there.1 in
     let same : height M x.id levels ≡ height M inst.master levels = ap (λ (at : ModId). height M at levels) (id-of_found M inst.master x there.1) in

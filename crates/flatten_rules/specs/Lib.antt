@@ -1,7 +1,10 @@
 pub mod Lookup
 pub mod Unfolding
 pub mod Root
+pub mod Domains
+pub mod Texts
 pub mod Sound
+pub mod Order
 pub mod Limits
 pub mod Extent
 pub mod Design

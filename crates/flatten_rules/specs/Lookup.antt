@@ -4,6 +4,7 @@ use Rattle.emh_base.specs.declared.ids.NetId.{NetId}
 use Rattle.emh_base.specs.declared.ids.InstId.{InstId}
 use Rattle.emh_base.specs.declared.plain.Range.{Range}
 use Rattle.emh_base.specs.declared.plain.PNet.{PNet}
+use Rattle.emh_base.specs.declared.plain.PPort.{PPort}
 use Rattle.emh_base.specs.declared.plain.PInst.{PInst}
 use Rattle.emh_base.specs.declared.plain.PModule.{PModule}
 use Rattle.emh_base.specs.declared.plain.Plain.{Plain}
@@ -15,6 +16,10 @@ module_of M id = find (λ m. m.id.0 == id.0) M.modules
 
 abbrev pub net_of : PModule → NetId → Option PNet
 net_of m id = find (λ net. net.id.0 == id.0) m.nets
+
+-- a port is named by its inner net
+abbrev pub port_of : PModule → NetId → Option PPort
+port_of m net = find (λ port. port.net.0 == net.0) m.ports
 
 abbrev pub inst_of : PModule → InstId → Option PInst
 inst_of m id = find (λ inst. inst.id.0 == id.0) m.insts

@@ -5,6 +5,7 @@ ghost use Rattle.emh_base.specs.declared.plain.PModule.{PModule};
 ghost use Rattle.flatten_rules.specs.Lookup.{width};
 ghost use Rattle.flatten_rules.specs.Limits.{bits_of};
 ghost use Rattle.flatten_rules.specs.Sound.{IsSound, IsAllowed};
+ghost use Rattle.flatten_rules.specs.Order.{MastersFirst};
 ghost use Rattle.flatten_rules.specs.Extent.{Stops, IsExtent, IsExtentOf, AreExtents, with_instance};
 
 use crate::lookup::{place_of_module, width};
@@ -62,7 +63,8 @@ impl Extent {
 
 /// The extents of the modules of a table, in its order.
 pub fn extents(alloc: Global, plain: &Plain) -> Result<List<Extent>, NoMemory>
-    requires { IsSound plain.now }
+    requires sound { IsSound plain.now }
+    requires order { MastersFirst plain.now }
     ensures known { IfOk result (λ made. AreExtents plain.now made) }
     ensures all { IfOk result (λ made. length made ≡ length plain.now.modules) }
 {
@@ -95,6 +97,7 @@ pub fn extent_at(plain: &Plain, extents: &[Extent], id: ModId) -> Extent
 /// The extent of the first module that has none yet.
 fn extent_of(plain: &Plain, holder: &PModule, extents: &[Extent]) -> Extent
     requires sound { IsSound plain.now }
+    requires order { MastersFirst plain.now }
     requires known { AreExtents plain.now extents.now }
     requires next { (length extents.now < length plain.now.modules)
         × (holder.now ≡ slice_index_or plain.now.modules (length extents.now) holder.now) }
@@ -111,6 +114,7 @@ fn extent_of(plain: &Plain, holder: &PModule, extents: &[Extent]) -> Extent
 /// The extent of the instances of the first module that has none yet.
 fn extent_below(plain: &Plain, holder: &PModule, extents: &[Extent]) -> Extent
     requires sound { IsSound plain.now }
+    requires order { MastersFirst plain.now }
     requires known { AreExtents plain.now extents.now }
     requires next { (length extents.now < length plain.now.modules)
         × (holder.now ≡ slice_index_or plain.now.modules (length extents.now) holder.now) }

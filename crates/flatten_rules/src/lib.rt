@@ -11,7 +11,7 @@ mod root;
 
 pub use laws::two_level_unfolds;
 pub use limits::is_within;
-pub use lookup::{find, module_of, net_of, place_of_module, width};
+pub use lookup::{find, module_of, net_of, place_of_module, port_of, width};
 pub use numbered::{Numbered, place_of};
 pub use root::Root;
 

@@ -2,11 +2,11 @@ ghost use Rattle.std.specs.Prelude.{◌≡◌, ◌==◌, ◌<◌, ◌≤◌, Non
 ghost use Rattle.std.specs.Option.{option_copied};
 ghost use Rattle.emh_base.specs.declared.plain.PNet.{PNet};
 ghost use Rattle.emh_base.specs.declared.plain.PModule.{PModule};
-ghost use Rattle.flatten_rules.specs.Lookup.{module_of, net_of, width};
+ghost use Rattle.flatten_rules.specs.Lookup.{module_of, net_of, port_of, width};
 ghost use Rattle.flatten_rules.specs.Sound.{IsAllowed};
 
 use crate::numbered::{Numbered, place_of};
-use emh_base::{ModId, NetId, PModule, PNet, Plain, Range};
+use emh_base::{ModId, NetId, PModule, PNet, PPort, Plain, Range};
 
 /// The item with a number, in a list in rising order of numbers.
 pub fn find<T: Numbered>(items: &[T], number: u32) -> Option<&T>
@@ -33,6 +33,17 @@ pub fn net_of(holder: &PModule, id: NetId) -> Option<&PNet>
     ensures { option_copied result ≡ net_of holder.now id }
 {
     find(holder.nets.as_slice(), id.0)
+}
+
+/// The port of a module whose inner net has that id. The ports are looked through in order.
+pub fn port_of(holder: &PModule, net: NetId) -> Option<&PPort>
+    ensures { option_copied result ≡ port_of holder.now net }
+{
+    holder
+        .ports
+        .as_slice()
+        .iter()
+        .find(|port| port.net.0 == net.0)
 }
 
 /// The place in the table of the module of that id.

@@ -1,18 +1,23 @@
-ghost use Rattle.std.specs.Prelude.{◌≡◌, ℕ, ◌<◌, ◌++◌, List, map, IsTrue, IfOk, All, AllPairs, bytes_eq};
+ghost use Rattle.std.specs.Prelude.{◌≡◌, ◌≢◌, ℕ, ◌<◌, ◌++◌, List, map, length, IsTrue, IsSome, IfOk, All, AllPairs, bytes_eq};
 ghost use Rattle.std.specs.List.{IsDistinct};
 ghost use Rattle.emh_base.specs.declared.plain.PModule.{PModule};
 ghost use Rattle.emh_base.specs.declared.plain.PNet.{PNet};
+ghost use Rattle.emh_base.specs.declared.plain.PPort.{PPort};
 ghost use Rattle.emh_base.specs.declared.plain.PInst.{PInst};
-ghost use Rattle.flatten_rules.specs.Sound.{IsSound, IsSoundModule, HasMaster, IsAllowed};
+ghost use Rattle.flatten_rules.specs.Lookup.{net_of, port_of, width_of};
+ghost use Rattle.flatten_rules.specs.Sound.{IsSound, IsSoundModule, HasMaster, FitPorts, FitsPort, IsSource, IsCell, IsAllowed, HasNets};
+ghost use Rattle.flatten_rules.specs.Order.{MastersFirst};
 
-use crate::lookup::place_of_module;
+use crate::lookup::{module_of, net_of, port_of, width};
 use crate::numbered::Numbered;
-use emh_base::{Name, NoMemory, PInst, PModule, PNet, Plain, Pool, Range, TryCopy};
+use emh_base::{
+    Conn, Name, NetId, NoMemory, PInst, PModule, PNet, PPort, Plain, Pool, Range, Src, TryCopy,
+};
 use std::alloc::Global;
 
-/// Whether a table is sound.
+/// Whether a table is sound and its masters come first.
 pub(crate) fn is_sound(alloc: Global, plain: &Plain) -> Result<bool, NoMemory>
-    ensures { IfOk result (λ sound. IsTrue sound → IsSound plain.now) }
+    ensures { IfOk result (λ sound. IsTrue sound → IsSound plain.now × MastersFirst plain.now) }
 {
     if !have_own_names(alloc, plain)? {
         return Ok(false);
@@ -20,7 +25,11 @@ pub(crate) fn is_sound(alloc: Global, plain: &Plain) -> Result<bool, NoMemory>
     if !rises(plain.modules.as_slice(), plain.next_module) {
         return Ok(false);
     }
-    are_sound(alloc, plain)
+    if !have_nets(plain) || !have_masters_first(plain) {
+        return Ok(false);
+    }
+    let sound = are_sound(alloc, plain)?;
+    Ok(sound)
 }
 
 /// Whether no two modules have one name.
@@ -35,9 +44,52 @@ fn have_own_names(alloc: Global, plain: &Plain) -> Result<bool, NoMemory>
     Ok(true)
 }
 
-/// Whether each module of a table with rising ids is sound.
+/// Whether the nets of each module have rising ids and allowed ranges.
+fn have_nets(plain: &Plain) -> bool
+    ensures { IsTrue result → All HasNets plain.now.modules }
+{
+    plain
+        .modules
+        .as_slice()
+        .iter()
+        .all(|holder| has_nets(holder))
+}
+
+fn has_nets(holder: &PModule) -> bool
+    ensures nets { IsTrue result → HasNets holder.now }
+    ensures below { IsTrue result → All (λ (net : PNet). net.id.0 < holder.now.next_net) holder.now.nets }
+{
+    if !rises(holder.nets.as_slice(), holder.next_net) {
+        return false;
+    }
+    are_allowed(holder.nets.as_slice())
+}
+
+/// Whether masters stand before the modules of their instances.
+fn have_masters_first(plain: &Plain) -> bool
+    ensures { IsTrue result → MastersFirst plain.now }
+{
+    plain
+        .modules
+        .as_slice()
+        .iter()
+        .all(|holder| has_masters_first(holder))
+}
+
+fn has_masters_first(holder: &PModule) -> bool
+    ensures { IsTrue result → All (λ (inst : PInst). inst.master.0 < holder.now.id.0) holder.now.insts }
+{
+    holder
+        .insts
+        .as_slice()
+        .iter()
+        .all(|inst| inst.master.0 < holder.id.0)
+}
+
+/// Whether each module of a table with rising ids and sound nets is sound.
 fn are_sound(alloc: Global, plain: &Plain) -> Result<bool, NoMemory>
-    requires { AllPairs (λ (a b : PModule). a.id.0 < b.id.0) plain.now.modules }
+    requires rise { AllPairs (λ (a b : PModule). a.id.0 < b.id.0) plain.now.modules }
+    requires nets { All HasNets plain.now.modules }
     ensures { IfOk result (λ sound. IsTrue sound → All (IsSoundModule plain.now) plain.now.modules) }
 {
     for holder in plain.modules.as_slice() {
@@ -49,22 +101,79 @@ fn are_sound(alloc: Global, plain: &Plain) -> Result<bool, NoMemory>
 }
 
 fn is_sound_module(alloc: Global, plain: &Plain, holder: &PModule) -> Result<bool, NoMemory>
-    requires { AllPairs (λ (a b : PModule). a.id.0 < b.id.0) plain.now.modules }
+    requires rise { AllPairs (λ (a b : PModule). a.id.0 < b.id.0) plain.now.modules }
+    requires nets { All HasNets plain.now.modules }
     ensures { IfOk result (λ sound. IsTrue sound → IsSoundModule plain.now holder.now) }
 {
     if !has_own_names(alloc, holder)? {
         return Ok(false);
     }
-    if !rises(holder.nets.as_slice(), holder.next_net) {
+    if !has_nets(holder) {
         return Ok(false);
     }
     if !rises(holder.insts.as_slice(), holder.next_inst) {
         return Ok(false);
     }
-    if !are_allowed(holder.nets.as_slice()) || !have_masters(plain, holder) {
+    if !ports_are_there(holder) || !ports_differ(holder.ports.as_slice()) {
         return Ok(false);
     }
-    Ok(!holder.leaf || holder.insts.is_empty())
+    if !have_masters(plain, holder) {
+        return Ok(false);
+    }
+    Ok(is_cell_if_leaf(holder))
+}
+
+fn ports_are_there(holder: &PModule) -> bool
+    requires { HasNets holder.now }
+    ensures { IsTrue result → All (λ (port : PPort). IsSome (net_of holder.now port.net)) holder.now.ports }
+{
+    holder
+        .ports
+        .as_slice()
+        .iter()
+        .all(|port| net_of(holder, port.net).is_some())
+}
+
+fn ports_differ(ports: &[PPort]) -> bool
+    ensures { IsTrue result → AllPairs (λ (a b : PPort). a.net ≢ b.net) ports.now }
+{
+    for place in 0..ports.len() {
+        if !differ(ports[place].net, &ports[..place]) {
+            return false;
+        }
+    }
+    true
+}
+
+fn differ(net: NetId, ports: &[PPort]) -> bool
+    ensures { IsTrue result → All (λ (port : PPort). port.net ≢ net) ports.now }
+{
+    ports.iter().all(|port| port.net != net)
+}
+
+fn is_cell_if_leaf(holder: &PModule) -> bool
+    ensures { IsTrue result → IsTrue holder.now.leaf → IsCell holder.now }
+{
+    if holder.leaf { is_cell(holder) } else { true }
+}
+
+fn is_cell(holder: &PModule) -> bool
+    ensures { IsTrue result → IsCell holder.now }
+{
+    if !holder.insts.is_empty() || holder.locked {
+        return false;
+    }
+    nets_have_ports(holder)
+}
+
+fn nets_have_ports(holder: &PModule) -> bool
+    ensures { IsTrue result → All (λ (net : PNet). IsSome (port_of holder.now net.id)) holder.now.nets }
+{
+    holder
+        .nets
+        .as_slice()
+        .iter()
+        .all(|net| port_of(holder, net.id).is_some())
 }
 
 /// Whether no two nets or instances of a module have one name.
@@ -101,7 +210,9 @@ fn is_allowed(range: Option<Range>) -> bool
 }
 
 fn have_masters(plain: &Plain, holder: &PModule) -> bool
-    requires { AllPairs (λ (a b : PModule). a.id.0 < b.id.0) plain.now.modules }
+    requires rise { AllPairs (λ (a b : PModule). a.id.0 < b.id.0) plain.now.modules }
+    requires nets { All HasNets plain.now.modules }
+    requires own { HasNets holder.now }
     ensures { IsTrue result → All (HasMaster plain.now holder.now) holder.now.insts }
 {
     holder
@@ -112,10 +223,79 @@ fn have_masters(plain: &Plain, holder: &PModule) -> bool
 }
 
 fn has_master(plain: &Plain, holder: &PModule, inst: &PInst) -> bool
-    requires { AllPairs (λ (a b : PModule). a.id.0 < b.id.0) plain.now.modules }
+    requires rise { AllPairs (λ (a b : PModule). a.id.0 < b.id.0) plain.now.modules }
+    requires nets { All HasNets plain.now.modules }
+    requires own { HasNets holder.now }
     ensures { IsTrue result → HasMaster plain.now holder.now inst.now }
 {
-    inst.master.0 < holder.id.0 && place_of_module(plain, inst.master).is_some()
+    match module_of(plain, inst.master) {
+        Some(master) => fit_ports(
+            holder,
+            master,
+            master.ports.as_slice(),
+            inst.conns.as_slice(),
+        ),
+        None => false,
+    }
+}
+
+fn fit_ports(holder: &PModule, master: &PModule, ports: &[PPort], conns: &[Conn]) -> bool
+    requires own { HasNets holder.now }
+    requires master { HasNets master.now }
+    ensures { IsTrue result → FitPorts holder.now master.now ports.now conns.now }
+{
+    match (ports, conns) {
+        ([], []) => true,
+        ([port, ports @ ..], [conn, conns @ ..]) => {
+            fits_port(holder, master, port, conn) && fit_ports(holder, master, ports, conns)
+        }
+        _ => false,
+    }
+}
+
+fn fits_port(holder: &PModule, master: &PModule, port: &PPort, conn: &Conn) -> bool
+    requires own { HasNets holder.now }
+    requires master { HasNets master.now }
+    ensures { IsTrue result → FitsPort holder.now master.now port.now conn.now }
+{
+    match conn {
+        Conn::Open => true,
+        Conn::Bits(bits) => {
+            if bits.len() != usize::from(net_width(master, port.net)) {
+                return false;
+            }
+            are_sources(holder, bits.as_slice())
+        }
+    }
+}
+
+fn are_sources(holder: &PModule, sources: &[Src]) -> bool
+    requires { HasNets holder.now }
+    ensures { IsTrue result → All (IsSource holder.now) sources.now }
+{
+    sources.iter().all(|source| is_source(holder, source))
+}
+
+fn is_source(holder: &PModule, source: &Src) -> bool
+    requires { HasNets holder.now }
+    ensures { IsTrue result → IsSource holder.now source.now }
+{
+    match source {
+        Src::Tie0 => true,
+        Src::Tie1 => true,
+        Src::Bit(net, offset) => *offset < net_width(holder, *net),
+    }
+}
+
+/// The bits of a net, none where it isn't there.
+fn net_width(holder: &PModule, id: NetId) -> u16
+    requires { HasNets holder.now }
+    ensures { result ≡ width_of (net_of holder.now id) }
+{
+    match net_of(holder, id) {
+        Some(net) => width(net.range),
+        None => 0,
+    }
 }
 
 /// Whether the numbers of the items rise, and end below a counter.

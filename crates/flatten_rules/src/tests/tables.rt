@@ -1,6 +1,9 @@
 ghost use Rattle.std.specs.Prelude.{◌<◌, ◌≤◌};
 
-use emh_base::{InstId, List, ModId, Name, NetId, NoMemory, PInst, PModule, PNet, Plain, Range};
+use emh_base::{
+    Conn, Dir, InstId, List, ModId, Name, NetId, NoMemory, PInst, PModule, PNet, PPort, Plain,
+    Range,
+};
 use std::alloc::Global;
 
 /// The counter that all test tables have: ids are below it.
@@ -14,7 +17,7 @@ pub(crate) fn empty_table(alloc: Global) -> Plain {
     }
 }
 
-/// A module with an instance of each master.
+/// A module with an instance of each master, which leaves the master's ports open.
 pub(crate) fn add_module(
     alloc: Global,
     plain: &mut Plain,
@@ -28,14 +31,37 @@ pub(crate) fn add_module(
             id: InstId(number),
             name: name_of(alloc, number)?,
             master: ModId(*master),
-            conns: List::new(alloc),
+            conns: all_open(alloc, plain, ModId(*master))?,
         })?;
         number = number.saturating_add(1);
     }
-    add(alloc, plain, id, false, List::new(alloc), insts)
+    add(
+        alloc,
+        plain,
+        id,
+        false,
+        Inside {
+            nets: List::new(alloc),
+            ports: List::new(alloc),
+            insts,
+        },
+    )
 }
 
-/// A module with a net of each width.
+/// An open connection for each port of a module.
+fn all_open(alloc: Global, plain: &Plain, master: ModId) -> Result<List<Conn>, NoMemory> {
+    let mut conns = List::new(alloc);
+    for module in plain.modules.as_slice() {
+        if module.id == master {
+            for _port in module.ports.as_slice() {
+                conns.push(Conn::Open)?;
+            }
+        }
+    }
+    Ok(conns)
+}
+
+/// A module with a net of each width, each an input of a leaf and inside any other module.
 pub(crate) fn add_nets(
     alloc: Global,
     plain: &mut Plain,
@@ -44,8 +70,15 @@ pub(crate) fn add_nets(
     widths: &[u32],
 ) -> Result<(), NoMemory> {
     let mut nets = List::new(alloc);
+    let mut ports = List::new(alloc);
     let mut number: u32 = 0;
     for width in widths {
+        if leaf {
+            ports.push(PPort {
+                net: NetId(number),
+                dir: Dir::Input,
+            })?;
+        }
         nets.push(PNet {
             id: NetId(number),
             name: name_of(alloc, number)?,
@@ -56,7 +89,17 @@ pub(crate) fn add_nets(
         })?;
         number = number.saturating_add(1);
     }
-    add(alloc, plain, id, leaf, nets, List::new(alloc))
+    add(
+        alloc,
+        plain,
+        id,
+        leaf,
+        Inside {
+            nets,
+            ports,
+            insts: List::new(alloc),
+        },
+    )
 }
 
 /// Module 0 holds nothing, and each of the others two instances of the one before it.
@@ -79,21 +122,29 @@ pub(crate) fn chain(alloc: Global, top: u32) -> Result<Plain, NoMemory> {
     Ok(plain)
 }
 
+/// What a module holds.
+#[derive(Drop)]
+struct Inside {
+    nets: List<PNet>,
+    ports: List<PPort>,
+    insts: List<PInst>,
+}
+
 fn add(
     alloc: Global,
     plain: &mut Plain,
     id: u32,
     leaf: bool,
-    nets: List<PNet>,
-    insts: List<PInst>,
+    inside: Inside,
 ) -> Result<(), NoMemory> {
+    let Inside { nets, ports, insts } = inside;
     plain.modules.push(PModule {
         id: ModId(id),
         name: name_of(alloc, id)?,
         leaf,
         locked: false,
         nets,
-        ports: List::new(alloc),
+        ports,
         insts,
         next_net: NEXT,
         next_inst: NEXT,

@@ -2,7 +2,7 @@ use Rattle.std.proofs.Common.{refl}
 use Rattle.emh_base.specs.TwoLevel.{two_level}
 use Rattle.flatten_rules.specs.Unfolding.{unfolded, module_up}
 use Rattle.flatten_rules.specs.Root.{root_up}
-use Rattle.emh_shell.specs.Pins.{names_up}
+use Rattle.flatten_rules.specs.Texts.{names_up}
 use Rattle.emh_shell.proofs.laws.two_level_pins.Goals as goal
 
 pub returns : goal.returns

@@ -1,6 +1,6 @@
 use Rattle.std.proofs.Common.{◌≡◌, ◌++◌, [], ◌∷◌, length, get_or, Some, reverse, sym, ap, ◌∙◌, arith, append-nil}
 use Rattle.emh_base.specs.declared.plain.Plain.{Plain}
-use Rattle.emh_shell.specs.Pins.{leaf_lines}
+use Rattle.emh_shell.specs.Lines.{leaf_lines}
 use Rattle.emh_shell.proofs.BelowLemmas.{none-below, lines_below-push, lines_below-parts, leaf_lines-way, leaf_lines-inner, inst_of-here, inst_up-here}
 use Rattle.flatten_rules.proofs.Sound.{sound-module}
 use Rattle.emh_shell.specs.Way.{ids_of, path_of}

@@ -1,7 +1,7 @@
 use Rattle.std.proofs.Common.{◌≡◌, ◌+◌, ◌*◌, ◌-◌, ◌++◌, [], ◌∷◌, take}
 use Rattle.std.specs.List.{flat_map}
 use Rattle.flatten_rules.specs.Unfolding.{unfolded}
-use Rattle.emh_shell.specs.Pins.{occurrence_lines}
+use Rattle.emh_shell.specs.Lines.{occurrence_lines}
 use Rattle.emh_shell.specs.Way.{path_of}
 use Rattle.emh_shell.proofs.pins.+below.Given as goal
 

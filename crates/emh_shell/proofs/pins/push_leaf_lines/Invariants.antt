@@ -1,7 +1,7 @@
 use Rattle.std.proofs.Common.{◌≡◌, ◌++◌, reverse, take}
 use Rattle.std.specs.List.{flat_map}
 use Rattle.flatten_rules.specs.Lookup.{net_of}
-use Rattle.emh_shell.specs.Pins.{port_lines}
+use Rattle.emh_shell.specs.Lines.{port_lines}
 use Rattle.emh_shell.specs.Way.{ids_of}
 use Rattle.emh_shell.proofs.pins.push_leaf_lines.Given as goal
 

@@ -2,7 +2,9 @@ use Rattle.std.proofs.Common.{◌≡◌, ◌++◌, [], ◌∷◌, reverse, sym}
 use Rattle.std.proofs.lemmas.List.{length-reverse}
 use Rattle.flatten_rules.specs.Root.{pin_root}
 use Rattle.emh_base.specs.Text.{pin_text}
-use Rattle.emh_shell.specs.Pins.{names_up, root_text, pin_line}
+use Rattle.emh_shell.specs.Pins.{root_text}
+use Rattle.flatten_rules.specs.Texts.{names_up}
+use Rattle.emh_shell.specs.Lines.{net_line}
 use Rattle.emh_shell.specs.Way.{ids_of}
 use Rattle.emh_shell.proofs.TextLemmas.{line-parts}
 use Rattle.emh_shell.proofs.WayLemmas.{IsBelow-from_way}
@@ -20,7 +22,7 @@ returns c =
     let net = c.args.net.now in
     let below = IsBelow-from_way M top (reverse c.args.way.now) c.args.front.now (simp length-reverse c.requires.below) c.requires.way in
     let pin = c.in_ok-push_pin.ensures (names_up M top up) below.named below.text in
-    let parts : c.args.out.now ++ pin_line M top up net c.args.offset ≡ c.push_pin_root.new.out ++ 10 ∷ [] =
+    let parts : c.args.out.now ++ net_line M top up net c.args.offset ≡ c.push_pin_root.new.out ++ 10 ∷ [] =
     rw (c.in_ok-push_pin_root.ensures, c.in_ok-push.ensures.ok, pin)
     (sym (line-parts c.args.out.now (pin_text (names_up M top up) net.name net.range c.args.offset) (32 ∷ []) (root_text M top (pin_root M top up net.id c.args.offset)) (10 ∷ []))) in
     rw parts c.push-2.ensures.ok

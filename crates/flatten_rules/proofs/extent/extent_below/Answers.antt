@@ -9,7 +9,7 @@ pub extent_at-requires-clause-counted : goal.extent_at-requires-clause-counted
 extent_at-requires-clause-counted c =
     let items = c.as_slice-inst-items.ensures in
     let within : c.loop-inst.inst-index < length c.args.holder.now.insts = omega (arith, ap length items) in
-    master-before c.args.plain.now c.requires.sound (length c.args.extents.now) c.args.holder.now c.requires.next.0 c.requires.next.1
+    master-before c.args.plain.now c.requires.sound (length c.args.extents.now) c.args.holder.now c.requires.next.0 c.requires.next.1 c.requires.order
     c.inst-item.result c.loop-inst.inst-index within
     (c.inst-item.is ∙ ap (λ (insts : List PInst). get_or insts c.loop-inst.inst-index c.inst-item.result) items)
 

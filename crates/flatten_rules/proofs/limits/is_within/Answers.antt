@@ -16,11 +16,11 @@ returns c =
     let shallow : IsTrue c.are_shallow.result ↔ AllShallow extents = rw (← c.as_slice-modules.ensures) c.are_shallow.ensures in
     elim c.if-are_shallow.branch [
       | then-are_shallow w ↦ (
-        λ yes. within-from_extents plain top extents at_top c.requires known all here (shallow.0 w.if-are_shallow.true) (w.is_small.ensures.0 (sym w.result-is ∙ yes)),
-        λ within. w.result-is ∙ w.is_small.ensures.1 (extents-from_within plain top extents at_top c.requires known all here within).1,
+        λ yes. within-from_extents plain top extents at_top c.requires.sound known all here (shallow.0 w.if-are_shallow.true) (w.is_small.ensures.0 (sym w.result-is ∙ yes)),
+        λ within. w.result-is ∙ w.is_small.ensures.1 (extents-from_within plain top extents at_top c.requires.sound known all here within).1,
       )
       | else-are_shallow w ↦ (
         λ yes. absurd (false≢true (sym w.if-are_shallow.false ∙ sym w.result-is ∙ yes)),
-        λ within. absurd (false≢true (sym w.if-are_shallow.false ∙ shallow.1 (extents-from_within plain top extents at_top c.requires known all here within).0)),
+        λ within. absurd (false≢true (sym w.if-are_shallow.false ∙ shallow.1 (extents-from_within plain top extents at_top c.requires.sound known all here within).0)),
       )
     ]
