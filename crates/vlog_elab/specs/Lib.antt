@@ -1,0 +1,12 @@
+pub mod Agree
+pub mod Check
+pub mod Named
+pub mod Text
+pub mod Faces
+pub mod Declarations
+pub mod Steps
+pub mod Connections
+pub mod Table
+pub mod Cycle
+pub mod Elaboration
+pub mod Law

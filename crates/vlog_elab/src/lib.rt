@@ -1,0 +1,9 @@
+//! Elaboration: from the tree of a netlist to its module table, or to the first rule that is broken.
+#![tactic(auto)]
+
+mod face;
+mod fault;
+mod names;
+mod net;
+
+pub use fault::{ElabFault, ElabKind};
