@@ -1,5 +1,6 @@
 -- Names with values, in order. The first of a name counts.
-use Rattle.std.specs.Prelude.{ℕ, ◌+◌, Bool, if◌then◌else◌, List, [], ◌∷◌, Option, is_some, unwrap_or, position, bytes_eq}
+use Rattle.std.specs.Prelude.{ℕ, ◌+◌, Bool, if◌then◌else◌, List, [], ◌∷◌, Option, is_some, bytes_eq}
+use Rattle.std.specs.List.{position_from}
 use Rattle.std.specs.Map.{lookup}
 use Rattle.vlog_elab.specs.Check.{each_after}
 
@@ -13,9 +14,9 @@ named entries name = lookup (bytes_eq name) entries
 abbrev pub is_there : {V : Type 0} → Named V → List ℕ → Bool
 is_there entries name = is_some (named entries name)
 
--- the place of a name
+-- the place of a name, counted from 0
 abbrev pub place_of : {V : Type 0} → Named V → List ℕ → Option ℕ
-place_of entries name = position (λ e. bytes_eq name e.0) entries
+place_of entries name = position_from (λ e. bytes_eq name e.0) 0 entries
 
 -- the first of each name
 abbrev pub firsts : {V : Type 0} → Named V → Named V
