@@ -9,10 +9,12 @@ use Rattle.vlog_read.specs.declared.tree.TModule.{TModule}
 use Rattle.vlog_elab.specs.declared.fault.ElabKind.TheVariants as kind
 use Rattle.vlog_elab.specs.declared.face.Port.{Port}
 use Rattle.vlog_elab.specs.declared.face.Face.{Face}
+use Rattle.vlog_elab.specs.declared.face.Known.{Known}
+use Rattle.vlog_elab.specs.declared.said.Said.{Said}
 use Rattle.vlog_elab.specs.Check.{Check, check, check_at, each_after}
-use Rattle.vlog_elab.specs.Named.{Named, named, is_there}
+use Rattle.vlog_elab.specs.Named.{Named, named, is_there, just_names}
 use Rattle.vlog_elab.specs.Text.{is_leaf, header_names}
-use Rattle.vlog_elab.specs.Faces.{Place, Ranged, Directed, Wired, Placed, places, directions, wires, ports, added, faces, same_range, same_ports}
+use Rattle.vlog_elab.specs.Faces.{Place, Ranged, Directed, Wired, Placed, places, directions, said, ports, known, same_range, same_ports}
 
 -- a module of that name is there, and one of the two isn't a leaf
 abbrev pub is_taken : Bool → Option Face → Bool
@@ -24,13 +26,9 @@ abbrev pub has_other_ports : Named Port → Option Face → Bool
 has_other_ports ps None = false
 has_other_ports ps (Some there) = not (same_ports there.ports ps)
 
--- a name of this list
-abbrev pub is_among : List At → List ℕ → Bool
-is_among names name = list_any (λ (n : At). bytes_eq name n.name) names
-
 -- a header names a port twice: at the second
-abbrev pub header_check : List At → At → List Check
-header_check before n = check kind.PortTwice n (is_among before n.name) ∷ []
+abbrev pub header_checks : Named (Unit {0}) → At → List Check
+header_checks before n = check kind.PortTwice n (is_there before n.name) ∷ []
 
 -- the wire declaration of that name has another range than its direction
 abbrev pub differs_from_direction : Option Range → Option Port → Bool
@@ -46,20 +44,20 @@ differs_from_wire range (Some other) = not (same_range other range)
 -- At a direction of a name: it isn't in the header, or it has one already, or its wire declaration has another range.
 -- At a wire declaration of a name: it has one already, or its direction has another range, or it is no port of a leaf.
 -- At instances: they are in a leaf.
-abbrev pub place_checks : Bool → List At → List Place → Place → List Check
+abbrev pub place_checks : Bool → Named (Unit {0}) → Said → Place → List Check
 place_checks leaf header before (Ranged s n) =
     check_at kind.BadIndex s.at n.name (nat_lt 65535 s.range.left || nat_lt 65535 s.range.right)
     ∷ check_at kind.TooWide s.at n.name (nat_lt 4096 (width (Some s.range)))
     ∷ []
 place_checks leaf header before (Directed n port) =
-    check kind.UnknownPort n (not (is_among header n.name))
-    ∷ check kind.NameTaken n (is_there (directions before) n.name)
-    ∷ check kind.RangeDiffers n (differs_from_wire port.range (named (wires before) n.name))
+    check kind.UnknownPort n (not (is_there header n.name))
+    ∷ check kind.NameTaken n (is_there before.directions n.name)
+    ∷ check kind.RangeDiffers n (differs_from_wire port.range (named before.wires n.name))
     ∷ []
 place_checks leaf header before (Wired n range) =
-    check kind.NameTaken n (is_there (wires before) n.name)
-    ∷ check kind.RangeDiffers n (differs_from_direction range (named (directions before) n.name))
-    ∷ check kind.LeafBody n (leaf && not (is_among header n.name))
+    check kind.NameTaken n (is_there before.wires n.name)
+    ∷ check kind.RangeDiffers n (differs_from_direction range (named before.directions n.name))
+    ∷ check kind.LeafBody n (leaf && not (is_there header n.name))
     ∷ []
 place_checks leaf header before (Placed master) = check kind.LeafBody master leaf ∷ []
 
@@ -67,19 +65,26 @@ place_checks leaf header before (Placed master) = check kind.LeafBody master lea
 abbrev pub direction_check : Named Port → At → Check
 direction_check dirs n = check kind.NoDirection n (not (is_there dirs n.name))
 
--- The checks of a module that stands after these. Its name is there, and one of the two isn't a leaf; its header and
--- its declarations; a leaf of its name is there, and has other ports; it is to be added, and there are as many modules as
--- ids.
-abbrev pub module_checks : Plain → Bool → List TModule → TModule → List Check
-module_checks M all_leaf before m =
-    let there = named (faces M all_leaf before) m.name.name in
-    check kind.NameTaken m.name (is_taken (is_leaf all_leaf m) there)
-    ∷ each_after header_check [] (header_names m.header)
-    ++ each_after (place_checks (is_leaf all_leaf m) (header_names m.header)) [] (places m)
-    ++ map (direction_check (directions (places m))) (header_names m.header)
+-- a header and its declarations: each name after those before it, each place after what those before it say, and then the names
+-- without a direction
+abbrev pub inside_checks : Bool → TModule → List Check
+inside_checks leaf m =
+    let names = header_names m.header in
+    each_after (λ before n. header_checks (just_names before) n) [] names
+    ++ each_after (λ before p. place_checks leaf (just_names names) (said before) p) [] (places m)
+    ++ map (direction_check (directions (places m))) names
+
+-- The checks of a module after what is known of those before it. Its name is there, and one of the two isn't a leaf; its
+-- header and its declarations; a leaf of its name is there, and has other ports; it is to be added, and no id is left.
+abbrev pub module_checks : Bool → Known → TModule → List Check
+module_checks all_leaf before m =
+    let leaf = is_leaf all_leaf m in
+    let there = named before.faces m.name.name in
+    check kind.NameTaken m.name (is_taken leaf there)
+    ∷ inside_checks leaf m
     ++ check kind.NameTaken m.name (has_other_ports (ports m) there)
-    ∷ check kind.TooManyModules m.name (is_none there && M.next_module + length (added M before) == 4294967295)
+    ∷ check kind.TooManyModules m.name (is_none there && before.next_module == 4294967295)
     ∷ []
 
 abbrev pub declaration_checks : Plain → Bool → List TModule → List Check
-declaration_checks M all_leaf = each_after (module_checks M all_leaf) []
+declaration_checks M all_leaf = each_after (λ before m. module_checks all_leaf (known M all_leaf before) m) []

@@ -1,6 +1,6 @@
 -- What a module is to those that have instances of it: whether it is a leaf, and its ports. And the modules that a text
 -- adds to a table.
-use Rattle.std.specs.Prelude.{ℕ, ◌==◌, Bool, true, false, ◌&&◌, ◌||◌, not, if◌then◌else◌, List, [], ◌∷◌, ◌++◌, map, Option, Some, None, unwrap_or, bytes_eq}
+use Rattle.std.specs.Prelude.{ℕ, ◌+◌, ◌==◌, Bool, true, false, ◌&&◌, ◌||◌, not, if◌then◌else◌, List, [], ◌∷◌, ◌++◌, map, length, Option, Some, None, unwrap_or, bytes_eq}
 use Rattle.std.specs.List.{flat_map, filter_map, list_any}
 use Rattle.emh_base.specs.declared.plain.Dir.{Dir}
 use Rattle.emh_base.specs.declared.plain.Dir.TheVariants.{Input, Output, Inout}
@@ -18,6 +18,8 @@ use Rattle.vlog_read.specs.declared.tree.Item.TheVariants.{Decl as Declaration, 
 use Rattle.vlog_read.specs.declared.tree.TModule.{TModule}
 use Rattle.vlog_elab.specs.declared.face.Port.{Port}
 use Rattle.vlog_elab.specs.declared.face.Face.{Face}
+use Rattle.vlog_elab.specs.declared.face.Known.{Known}
+use Rattle.vlog_elab.specs.declared.said.Said.{Said}
 use Rattle.vlog_elab.specs.Check.{each_after}
 use Rattle.vlog_elab.specs.Named.{Named, named, numbered}
 use Rattle.vlog_elab.specs.Text.{is_leaf, header_names, header_decls, range_of}
@@ -74,6 +76,10 @@ wires = filter_map wire
     wire (Directed n port) = None
     wire (Placed master) = None
 
+-- what places say
+abbrev pub said : List Place → Said
+said before = record { directions = directions before; wires = wires before }
+
 -- a port of the header is as its direction says
 abbrev pub port_of : Named Port → At → List ℕ × Port
 port_of dirs n = (n.name, unwrap_or (named dirs n.name) (record { dir = Input; range = None }))
@@ -111,6 +117,11 @@ added M = each_after (λ before (m : TModule). if has_module M before m.name.nam
 -- the modules of the table, and those that a text adds to it, whose ids go on from the table's counter
 abbrev pub faces : Plain → Bool → List TModule → Named Face
 faces M all_leaf modules = map row_face M.modules ++ numbered (face all_leaf) M.next_module (added M modules)
+
+-- what is known of the modules of the table and those before in the text: what they are, and the id of the next one
+abbrev pub known : Plain → Bool → List TModule → Known
+known M all_leaf before =
+    record { faces = faces M all_leaf before; next_module = M.next_module + length (added M before) }
 
 abbrev pub same_dir : Dir → Dir → Bool
 same_dir Input Input = true

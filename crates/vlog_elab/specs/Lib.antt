@@ -6,6 +6,8 @@ pub mod Faces
 pub mod Declarations
 pub mod Steps
 pub mod Connections
+pub mod Walk
+pub mod Walks
 pub mod Table
 pub mod Cycle
 pub mod Elaboration

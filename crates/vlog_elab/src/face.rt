@@ -15,3 +15,11 @@ pub struct Face<'a> {
     pub leaf: bool,
     pub ports: Names<'a, Port>,
 }
+
+/// What is known of the modules so far, by their names.
+#[derive(Drop)]
+pub struct Known<'a> {
+    pub faces: Names<'a, Face<'a>>,
+    /// The id that the next module gets.
+    pub next_module: u32,
+}

@@ -5,5 +5,6 @@ mod face;
 mod fault;
 mod names;
 mod net;
+mod said;
 
 pub use fault::{ElabFault, ElabKind};

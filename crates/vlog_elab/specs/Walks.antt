@@ -1,0 +1,47 @@
+-- The walks over a header, over the declarations of a module, over modules, and over the connections of a module.
+use Rattle.std.specs.Prelude.{ℕ, ◌+◌, Bool, if◌then◌else◌, List, [], ◌∷◌, ◌++◌}
+use Rattle.vlog_read.specs.declared.tree.At.{At}
+use Rattle.vlog_read.specs.declared.tree.TModule.{TModule}
+use Rattle.vlog_elab.specs.declared.face.Known.{Known}
+use Rattle.vlog_elab.specs.declared.said.Said.{Said}
+use Rattle.vlog_elab.specs.declared.net.Scope.{Scope}
+use Rattle.vlog_elab.specs.Named.{Named, is_there}
+use Rattle.vlog_elab.specs.Faces.{Place, Ranged, Directed, Wired, Placed, face}
+use Rattle.vlog_elab.specs.Declarations.{header_checks, place_checks, module_checks}
+use Rattle.vlog_elab.specs.Steps.{Step, net_at, inst_at}
+use Rattle.vlog_elab.specs.Connections.{step_checks}
+use Rattle.vlog_elab.specs.Walk.{Walk}
+
+abbrev pub header_walk : Walk (Named (Unit {0})) At
+header_walk = record { checks = header_checks; after = λ before n. before ++ (n.name, tt) ∷ [] }
+
+abbrev pub after_place : Said → Place → Said
+after_place said (Ranged s n) = said
+after_place said (Directed n port) =
+    record { directions = said.directions ++ (n.name, port) ∷ []; wires = said.wires }
+after_place said (Wired n range) =
+    record { directions = said.directions; wires = said.wires ++ (n.name, range) ∷ [] }
+after_place said (Placed master) = said
+
+abbrev pub place_walk : Bool → Named (Unit {0}) → Walk Said Place
+place_walk leaf header = record { checks = place_checks leaf header; after = after_place }
+
+-- a module is added where its name isn't there
+abbrev pub after_module : Bool → Known → TModule → Known
+after_module all_leaf known m =
+    if is_there known.faces m.name.name then known
+    else record { faces = known.faces ++ face all_leaf known.next_module m ∷ []; next_module = known.next_module + 1 }
+
+abbrev pub module_walk : Bool → Walk Known TModule
+module_walk all_leaf = record { checks = module_checks all_leaf; after = after_module all_leaf }
+
+-- each goes last where its name isn't there
+abbrev pub with_new : {V : Type 0} → Named V → Named V → Named V
+with_new entries [] = entries
+with_new entries (e ∷ es) = with_new (if is_there entries e.0 then entries else entries ++ e ∷ []) es
+
+abbrev pub after_step : Scope → Step → Scope
+after_step scope step = record { nets = with_new scope.nets (net_at step); insts = scope.insts ++ inst_at step }
+
+abbrev pub step_walk : Walk Scope Step
+step_walk = record { checks = step_checks; after = after_step }
