@@ -148,3 +148,8 @@ pub known-at_end : {S X : Type 0} (w : Walk S X) (known : List X → S) → ((be
 known-at_end w known more before [] = ap known (append-nil before)
 known-at_end w known more before (x ∷ xs) =
   ap known (sym (append_assoc before (x ∷ []) xs)) ∙ known-at_end w known more (before ++ x ∷ []) xs ∙ ap (λ s. at_end w s xs) (more before x)
+
+-- after a part that is passed, what the rest gives is what the whole gives
+pub walks-then : {S X T : Type 0} {w : Walk S X} {s t : S} {xs : List X} (ys : List X) (r : Result T ElabFault) (u : S) → Passed w s xs t → Walks w t ys r u → Walks w s (xs ++ ys) r u
+walks-then ys (Ok v) u p q = passed-then p q
+walks-then ys (Err e) u p q = fails-then p q

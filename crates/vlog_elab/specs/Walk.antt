@@ -42,6 +42,11 @@ abbrev pub Walks : {S X T : Type 0} → Walk S X → S → List X → Result T E
 Walks w s xs (Ok _) t = Passed w s xs t
 Walks w s xs (Err fault) t = Fails w s xs fault
 
+-- what a function gives that walks over items, and answers what is known at the end
+abbrev pub Gives : {S X : Type 0} → Walk S X → S → List X → Result S ElabFault → Type 0
+Gives w s xs (Ok t) = Passed w s xs t
+Gives w s xs (Err fault) = Fails w s xs fault
+
 -- what a function gives that looks at checks
 abbrev pub Checks : {T : Type 0} → List Check → Result T ElabFault → Type 0
 Checks cs (Ok _) = first cs ≡ None

@@ -2,12 +2,13 @@
 use Rattle.std.specs.Prelude.{ℕ, ◌+◌, Bool, if◌then◌else◌, List, [], ◌∷◌, ◌++◌}
 use Rattle.vlog_read.specs.declared.tree.At.{At}
 use Rattle.vlog_read.specs.declared.tree.TModule.{TModule}
+use Rattle.vlog_elab.specs.declared.face.Port.{Port}
 use Rattle.vlog_elab.specs.declared.face.Known.{Known}
 use Rattle.vlog_elab.specs.declared.said.Said.{Said}
 use Rattle.vlog_elab.specs.declared.net.Scope.{Scope}
 use Rattle.vlog_elab.specs.Named.{Named, is_there}
-use Rattle.vlog_elab.specs.Faces.{Place, Ranged, Directed, Wired, Placed, face}
-use Rattle.vlog_elab.specs.Declarations.{header_checks, place_checks, module_checks}
+use Rattle.vlog_elab.specs.Faces.{Place, Ranged, Directed, Wired, Placed, port_of, face}
+use Rattle.vlog_elab.specs.Declarations.{header_checks, place_checks, direction_check, module_checks}
 use Rattle.vlog_elab.specs.Steps.{Step, net_at, inst_at}
 use Rattle.vlog_elab.specs.Connections.{step_checks}
 use Rattle.vlog_elab.specs.Walk.{Walk}
@@ -25,6 +26,10 @@ after_place said (Placed master) = said
 
 abbrev pub place_walk : Bool → Named (Unit {0}) → Walk Said Place
 place_walk leaf header = record { checks = place_checks leaf header; after = after_place }
+
+-- the ports of a header
+abbrev pub port_walk : Named Port → Walk (Named Port) At
+port_walk dirs = record { checks = λ before n. direction_check dirs n ∷ []; after = λ before n. before ++ port_of dirs n ∷ [] }
 
 -- a module is added where its name isn't there
 abbrev pub after_module : Bool → Known → TModule → Known

@@ -1,4 +1,8 @@
-use emh_base::Name;
+ghost use Rattle.std.specs.Prelude.{Some};
+ghost use Rattle.vlog_elab.specs.Walk.{Found};
+
+use emh_base::{Name, NoMemory, TryCopy};
+use vlog_read::At;
 
 /// The rules of elaboration.
 #[derive(Clone, Copy, Debug, PartialEq, Eq)]
@@ -40,4 +44,32 @@ pub enum ElabFault {
         name: Name,
     },
     NoMemory,
+}
+
+impl From<NoMemory> for ElabFault {
+    ghost use Rattle.std.specs.Prelude.{◌≡◌};
+    ghost use Rattle.vlog_elab.specs.declared.fault.ElabFault.TheVariants.{NoMemory as no_memory};
+
+    ghost from_gives = { λ _ fault. fault ≡ no_memory };
+
+    fn from(_: NoMemory) -> ElabFault {
+        ElabFault::NoMemory
+    }
+}
+
+/// The fault of a rule at a place, with a name.
+pub fn fault_at(kind: ElabKind, at: u32, name: &Name) -> ElabFault
+    ensures { Found (Some (ElabFault.Fault kind at name.now)) result }
+{
+    match name.copy() {
+        Ok(name) => ElabFault::Fault { kind, at, name },
+        Err(_) => ElabFault::NoMemory,
+    }
+}
+
+/// The fault of a rule at a token, with the token's name.
+pub fn fault(kind: ElabKind, token: &At) -> ElabFault
+    ensures { Found (Some (ElabFault.Fault kind token.now.at token.now.name)) result }
+{
+    fault_at(kind, token.at, &token.name)
 }
