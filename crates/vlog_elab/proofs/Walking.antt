@@ -74,6 +74,9 @@ one_more ys i y within here = take_more ys i y within ∙ (rw (← here) refl)
 pub parted : {Y : Type 0} (ys : List Y) (i : ℕ) (y : Y) → i < length ys → y ≡ get_or ys i y → ys ≡ take i ys ++ (y ∷ drop (i + 1) ys)
 parted ys i y within here = sym (take-append-drop i ys) ∙ ap (λ rest. take i ys ++ rest) (drop_more ys i y within ∙ (rw (← here) refl))
 
+pub flat_map-push : {X Y : Type 0} (f : X → List Y) (xs : List X) (x : X) → flat_map f (xs ++ x ∷ []) ≡ flat_map f xs ++ f x
+flat_map-push f xs x = flat_map-append f xs (x ∷ []) ∙ ap (λ rest. flat_map f xs ++ rest) (append-nil (f x))
+
 pub each_after-append : {X Y : Type 0} (f : List X → X → List Y) (before xs ys : List X) → each_after f before (xs ++ ys) ≡ each_after f before xs ++ each_after f (before ++ xs) ys
 each_after-append f before [] ys = ap (λ before. each_after f before ys) (sym (append-nil before))
 each_after-append f before (x ∷ xs) ys =

@@ -14,7 +14,7 @@ use Rattle.vlog_elab.specs.declared.said.Said.{Said}
 use Rattle.vlog_elab.specs.Check.{Check, check, check_at, each_after}
 use Rattle.vlog_elab.specs.Named.{Named, named, is_there, just_names}
 use Rattle.vlog_elab.specs.Text.{is_leaf, header_names}
-use Rattle.vlog_elab.specs.Faces.{Place, Ranged, Directed, Wired, Placed, places, directions, said, ports, known, same_range, same_ports}
+use Rattle.vlog_elab.specs.Faces.{Place, Ranged, Directed, Wired, Placed, places, said, ports, known, same_range, same_ports}
 
 -- a module of that name is there, and one of the two isn't a leaf
 abbrev pub is_taken : Bool → Option Face → Bool
@@ -72,7 +72,7 @@ inside_checks leaf m =
     let names = header_names m.header in
     each_after (λ before n. header_checks (just_names before) n) [] names
     ++ each_after (λ before p. place_checks leaf (just_names names) (said before) p) [] (places m)
-    ++ map (direction_check (directions (places m))) names
+    ++ map (direction_check (said (places m)).directions) names
 
 -- The checks of a module after what is known of those before it. Its name is there, and one of the two isn't a leaf; its
 -- header and its declarations; a leaf of its name is there, and has other ports; it is to be added, and no id is left.

@@ -1,7 +1,7 @@
 -- What a module is to those that have instances of it: whether it is a leaf, and its ports. And the modules that a text
 -- adds to a table.
 use Rattle.std.specs.Prelude.{ℕ, ◌+◌, ◌==◌, Bool, true, false, ◌&&◌, ◌||◌, not, if◌then◌else◌, List, [], ◌∷◌, ◌++◌, map, length, Option, Some, None, unwrap_or, bytes_eq}
-use Rattle.std.specs.List.{flat_map, filter_map, list_any}
+use Rattle.std.specs.List.{flat_map, list_any}
 use Rattle.emh_base.specs.declared.plain.Dir.{Dir}
 use Rattle.emh_base.specs.declared.plain.Dir.TheVariants.{Input, Output, Inout}
 use Rattle.emh_base.specs.declared.plain.Range.{Range}
@@ -56,29 +56,23 @@ item_places (Insts master insts) = Placed master ∷ []
 abbrev pub places : TModule → List Place
 places m = flat_map decl_places (header_decls m.header) ++ flat_map item_places m.items
 
--- the directions that are declared, with the ranges of their declarations
-abbrev pub directions : List Place → Named Port
-directions = filter_map direction
-  where
-    direction : Place → Option (List ℕ × Port)
-    direction (Directed n port) = Some (n.name, port)
-    direction (Ranged s n) = None
-    direction (Wired n range) = None
-    direction (Placed master) = None
+-- the direction that is declared at a place, with the range of its declaration
+abbrev pub direction_at : Place → Named Port
+direction_at (Ranged s n) = []
+direction_at (Directed n port) = (n.name, port) ∷ []
+direction_at (Wired n range) = []
+direction_at (Placed master) = []
 
--- the wire declarations
-abbrev pub wires : List Place → Named (Option Range)
-wires = filter_map wire
-  where
-    wire : Place → Option (List ℕ × Option Range)
-    wire (Wired n range) = Some (n.name, range)
-    wire (Ranged s n) = None
-    wire (Directed n port) = None
-    wire (Placed master) = None
+-- the range of the wire declaration at a place
+abbrev pub wire_at : Place → Named (Option Range)
+wire_at (Ranged s n) = []
+wire_at (Directed n port) = []
+wire_at (Wired n range) = (n.name, range) ∷ []
+wire_at (Placed master) = []
 
--- what places say
+-- what places say of names
 abbrev pub said : List Place → Said
-said before = record { directions = directions before; wires = wires before }
+said before = record { directions = flat_map direction_at before; wires = flat_map wire_at before }
 
 -- a port of the header is as its direction says
 abbrev pub port_of : Named Port → At → List ℕ × Port
@@ -86,7 +80,7 @@ port_of dirs n = (n.name, unwrap_or (named dirs n.name) (record { dir = Input; r
 
 -- the ports of a module, in the order of the header
 abbrev pub ports : TModule → Named Port
-ports m = map (port_of (directions (places m))) (header_names m.header)
+ports m = map (port_of (said (places m)).directions) (header_names m.header)
 
 -- what a module of the text is
 abbrev pub face : Bool → ℕ → TModule → List ℕ × Face

@@ -7,7 +7,7 @@ use Rattle.vlog_elab.specs.declared.face.Known.{Known}
 use Rattle.vlog_elab.specs.declared.said.Said.{Said}
 use Rattle.vlog_elab.specs.declared.net.Scope.{Scope}
 use Rattle.vlog_elab.specs.Named.{Named, is_there}
-use Rattle.vlog_elab.specs.Faces.{Place, Ranged, Directed, Wired, Placed, port_of, face}
+use Rattle.vlog_elab.specs.Faces.{Place, direction_at, wire_at, port_of, face}
 use Rattle.vlog_elab.specs.Declarations.{header_checks, place_checks, direction_check, module_checks}
 use Rattle.vlog_elab.specs.Steps.{Step, net_at, inst_at}
 use Rattle.vlog_elab.specs.Connections.{step_checks}
@@ -17,12 +17,8 @@ abbrev pub header_walk : Walk (Named (Unit {0})) At
 header_walk = record { checks = header_checks; after = λ before n. before ++ (n.name, tt) ∷ [] }
 
 abbrev pub after_place : Said → Place → Said
-after_place said (Ranged s n) = said
-after_place said (Directed n port) =
-    record { directions = said.directions ++ (n.name, port) ∷ []; wires = said.wires }
-after_place said (Wired n range) =
-    record { directions = said.directions; wires = said.wires ++ (n.name, range) ∷ [] }
-after_place said (Placed master) = said
+after_place before p =
+    record { directions = before.directions ++ direction_at p; wires = before.wires ++ wire_at p }
 
 abbrev pub place_walk : Bool → Named (Unit {0}) → Walk Said Place
 place_walk leaf header = record { checks = place_checks leaf header; after = after_place }

@@ -6,6 +6,7 @@ mod face;
 mod fault;
 mod names;
 mod net;
+mod ports;
 mod said;
 
 pub use fault::{ElabFault, ElabKind};
