@@ -1,20 +1,21 @@
 -- The first round in a module: its walks are the checks of the definition.
-use Rattle.std.proofs.Common.{arith, rules, ◌≡◌, ℕ, [], ◌∷◌, ◌++◌, None, Some, Option, Bool, List, map, refl, sym, ◌∙◌, ap, cond, subst, append_assoc, Result, Ok, Err, MatchResult}
+use Rattle.std.proofs.Common.{arith, rules, ◌≡◌, ℕ, [], ◌∷◌, ◌++◌, None, Some, Option, Bool, List, map, refl, sym, ◌∙◌, ap, cond, subst, append_assoc, Result, Ok, Err, MatchResult, OnOk}
 use Rattle.std.specs.List.{flat_map}
 use Rattle.std.proofs.lemmas.List.{append-nil, map-append}
 use Rattle.vlog_read.specs.declared.tree.At.{At}
 use Rattle.vlog_read.specs.declared.tree.TModule.{TModule}
 use Rattle.vlog_elab.specs.declared.face.Port.{Port}
+use Rattle.vlog_elab.specs.declared.face.Known.{Known}
 use Rattle.vlog_elab.specs.declared.said.Said.{Said}
 use Rattle.vlog_elab.specs.declared.fault.ElabFault.{ElabFault}
 use Rattle.vlog_elab.specs.Check.{Check, first, each_after}
 use Rattle.vlog_elab.specs.Named.{Named, just_names}
-use Rattle.vlog_elab.specs.Text.{header_names}
+use Rattle.vlog_elab.specs.Text.{is_leaf, header_names}
 use Rattle.vlog_elab.specs.Faces.{Place, places, direction_at, wire_at, said, port_of, ports}
-use Rattle.vlog_elab.specs.Declarations.{header_checks, place_checks, direction_check, inside_checks}
-use Rattle.vlog_elab.specs.Walk.{Walk, or_else, first_fault, at_end, Found, Passed, Fails, Gives}
-use Rattle.vlog_elab.specs.Walks.{header_walk, place_walk, port_walk, after_place}
-use Rattle.vlog_elab.proofs.Walking.{flat_map-push, or_else_assoc, first-append, walked, known-at_end, found-or, found-after, found-along}
+use Rattle.vlog_elab.specs.Declarations.{header_checks, place_checks, direction_check, inside_checks, name_check, entry_checks, module_checks}
+use Rattle.vlog_elab.specs.Walk.{Walk, or_else, first_fault, at_end, Found, Passed, Fails, Gives, Walks, Checks}
+use Rattle.vlog_elab.specs.Walks.{header_walk, place_walk, port_walk, after_place, module_walk, with_module}
+use Rattle.vlog_elab.proofs.Walking.{flat_map-push, or_else_assoc, or_else-None, first-append, walked, known-at_end, found-or, found-after, found-along}
 
 names-more : (before : List At) (n : At) → just_names (before ++ n ∷ []) ≡ header_walk.after (just_names before) n
 names-more before n = map-append (λ (n : At). let e : List ℕ × Unit {0} = (n.name, tt) in e) before (n ∷ [])
@@ -99,3 +100,34 @@ ports-give leaf m names before r p q g = by_cases r g
     by_cases (Err e) g =
       let f : Found (first_fault (port_walk (said (places m)).directions) [] (header_names m.header)) e = rw (← dirs) g.found in
       found-along _ _ e (inside-walks leaf m) (found-after _ _ e p.none (found-after _ _ e none f))
+
+-- A module: its name, its header and declarations, and its entry.
+
+module-parts : (all_leaf : Bool) (k : Known) (m : TModule) → first (module_checks all_leaf k m)
+    ≡ or_else (first (name_check (is_leaf all_leaf m) k m ∷ [])) (or_else (first (inside_checks (is_leaf all_leaf m) m)) (first (entry_checks k (ports m) m)))
+module-parts all_leaf k m =
+  let a : List Check = name_check (is_leaf all_leaf m) k m ∷ [] in
+  let b : List Check = inside_checks (is_leaf all_leaf m) m in
+  let e : List Check = entry_checks k (ports m) m in
+  first-append (a ++ b) e ∙ ap (λ o. or_else o (first e)) (first-append a b) ∙ or_else_assoc (first a) (first b) (first e)
+
+pub module-fails : (all_leaf : Bool) (k : Known) (m : TModule) (fault : ElabFault) → first (name_check (is_leaf all_leaf m) k m ∷ []) ≡ None
+    → Found (first (inside_checks (is_leaf all_leaf m) m)) fault → Fails (module_walk all_leaf) k (m ∷ []) fault
+module-fails all_leaf k m fault named inside = record {
+  found =
+    found-along _ _ fault (or_else-None (first (module_checks all_leaf k m)) ∙ module-parts all_leaf k m)
+    (found-after _ _ fault named (found-or _ _ fault inside));
+}
+
+pub module-gives : {T : Type 0} (all_leaf : Bool) (k k' : Known) (m : TModule) (ps : Named Port) (r : Result T ElabFault)
+    → first (name_check (is_leaf all_leaf m) k m ∷ []) ≡ None → first (inside_checks (is_leaf all_leaf m) m) ≡ None → ps ≡ ports m
+    → Checks (entry_checks k ps m) r → OnOk r (k' ≡ with_module (is_leaf all_leaf m) k m ps) → Walks (module_walk all_leaf) k (m ∷ []) r k'
+module-gives all_leaf k k' m ps (Ok v) named inside same checks after = record {
+  none = or_else-None (first (module_checks all_leaf k m)) ∙ module-parts all_leaf k m ∙ (rw (named, inside, ← same) checks);
+  end = after ∙ (rw same refl);
+}
+module-gives all_leaf k k' m ps (Err fault) named inside same checks after = record {
+  found =
+    found-along _ _ fault (or_else-None (first (module_checks all_leaf k m)) ∙ module-parts all_leaf k m)
+    (found-after _ _ fault named (found-after _ _ fault inside (rw (← same) checks)));
+}

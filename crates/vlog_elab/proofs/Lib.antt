@@ -1,3 +1,4 @@
 pub mod Naming
 pub mod Walking
 pub mod Declaring
+pub mod Alike

@@ -1,5 +1,5 @@
 -- The first round: modules, headers and declarations.
-use Rattle.std.specs.Prelude.{ℕ, ◌+◌, ◌==◌, nat_lt, Bool, false, ◌&&◌, ◌||◌, not, List, [], ◌∷◌, ◌++◌, map, length, Option, Some, None, is_none, bytes_eq}
+use Rattle.std.specs.Prelude.{ℕ, ◌+◌, ◌==◌, nat_lt, Bool, false, ◌&&◌, ◌||◌, not, List, [], ◌∷◌, ◌++◌, map, length, Option, Some, None}
 use Rattle.std.specs.List.{list_any}
 use Rattle.emh_base.specs.declared.plain.Range.{Range}
 use Rattle.emh_base.specs.declared.plain.Plain.{Plain}
@@ -74,17 +74,21 @@ inside_checks leaf m =
     ++ each_after (λ before p. place_checks leaf (just_names names) (said before) p) [] (places m)
     ++ map (direction_check (said (places m)).directions) names
 
--- The checks of a module after what is known of those before it. Its name is there, and one of the two isn't a leaf; its
--- header and its declarations; a leaf of its name is there, and has other ports; it is to be added, and no id is left.
+-- a module of that name is there, and one of the two isn't a leaf
+abbrev pub name_check : Bool → Known → TModule → Check
+name_check leaf before m = check kind.NameTaken m.name (is_taken leaf (named before.faces m.name.name))
+
+-- a leaf of that name is there, and has other ports; the module is to be added, and no id is left
+abbrev pub entry_checks : Known → Named Port → TModule → List Check
+entry_checks before ps m =
+    check kind.NameTaken m.name (has_other_ports ps (named before.faces m.name.name))
+    ∷ check kind.TooManyModules m.name (not (is_there before.faces m.name.name) && before.next_module == 4294967295)
+    ∷ []
+
+-- the checks of a module, after what is known of those before it
 abbrev pub module_checks : Bool → Known → TModule → List Check
 module_checks all_leaf before m =
-    let leaf = is_leaf all_leaf m in
-    let there = named before.faces m.name.name in
-    check kind.NameTaken m.name (is_taken leaf there)
-    ∷ inside_checks leaf m
-    ++ check kind.NameTaken m.name (has_other_ports (ports m) there)
-    ∷ check kind.TooManyModules m.name (is_none there && before.next_module == 4294967295)
-    ∷ []
+    name_check (is_leaf all_leaf m) before m ∷ inside_checks (is_leaf all_leaf m) m ++ entry_checks before (ports m) m
 
 abbrev pub declaration_checks : Plain → Bool → List TModule → List Check
 declaration_checks M all_leaf = each_after (λ before m. module_checks all_leaf (known M all_leaf before) m) []

@@ -83,8 +83,11 @@ abbrev pub ports : TModule → Named Port
 ports m = map (port_of (said (places m)).directions) (header_names m.header)
 
 -- what a module of the text is
+abbrev pub face_with : Bool → ℕ → TModule → Named Port → List ℕ × Face
+face_with leaf id m ps = (m.name.name, record { id = record { 0 = id }; leaf = leaf; ports = ps })
+
 abbrev pub face : Bool → ℕ → TModule → List ℕ × Face
-face all_leaf id m = (m.name.name, record { id = record { 0 = id }; leaf = is_leaf all_leaf m; ports = ports m })
+face all_leaf id m = face_with (is_leaf all_leaf m) id m (ports m)
 
 -- a port of the table has the name and the range of its inner net
 abbrev pub row_port_on : Dir → Option PNet → List ℕ × Port
@@ -134,10 +137,12 @@ same_range None (Some b) = false
 same_range (Some a) None = false
 same_range (Some a) (Some b) = a.left == b.left && a.right == b.right
 
+abbrev pub same_port : List ℕ × Port → List ℕ × Port → Bool
+same_port p q = bytes_eq p.0 q.0 && same_dir p.1.dir q.1.dir && same_range p.1.range q.1.range
+
 -- the same ports: number, names, directions and ranges, in order
 abbrev pub same_ports : Named Port → Named Port → Bool
 same_ports [] [] = true
 same_ports [] (q ∷ qs) = false
 same_ports (p ∷ ps) [] = false
-same_ports (p ∷ ps) (q ∷ qs) =
-    bytes_eq p.0 q.0 && same_dir p.1.dir q.1.dir && same_range p.1.range q.1.range && same_ports ps qs
+same_ports (p ∷ ps) (q ∷ qs) = same_port p q && same_ports ps qs

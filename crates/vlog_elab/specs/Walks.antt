@@ -7,7 +7,8 @@ use Rattle.vlog_elab.specs.declared.face.Known.{Known}
 use Rattle.vlog_elab.specs.declared.said.Said.{Said}
 use Rattle.vlog_elab.specs.declared.net.Scope.{Scope}
 use Rattle.vlog_elab.specs.Named.{Named, is_there}
-use Rattle.vlog_elab.specs.Faces.{Place, direction_at, wire_at, port_of, face}
+use Rattle.vlog_elab.specs.Text.{is_leaf}
+use Rattle.vlog_elab.specs.Faces.{Place, direction_at, wire_at, port_of, ports, face_with}
 use Rattle.vlog_elab.specs.Declarations.{header_checks, place_checks, direction_check, module_checks}
 use Rattle.vlog_elab.specs.Steps.{Step, net_at, inst_at}
 use Rattle.vlog_elab.specs.Connections.{step_checks}
@@ -28,10 +29,13 @@ abbrev pub port_walk : Named Port → Walk (Named Port) At
 port_walk dirs = record { checks = λ before n. direction_check dirs n ∷ []; after = λ before n. before ++ port_of dirs n ∷ [] }
 
 -- a module is added where its name isn't there
+abbrev pub with_module : Bool → Known → TModule → Named Port → Known
+with_module leaf before m ps =
+    if is_there before.faces m.name.name then before
+    else record { faces = before.faces ++ face_with leaf before.next_module m ps ∷ []; next_module = before.next_module + 1 }
+
 abbrev pub after_module : Bool → Known → TModule → Known
-after_module all_leaf known m =
-    if is_there known.faces m.name.name then known
-    else record { faces = known.faces ++ face all_leaf known.next_module m ∷ []; next_module = known.next_module + 1 }
+after_module all_leaf before m = with_module (is_leaf all_leaf m) before m (ports m)
 
 abbrev pub module_walk : Bool → Walk Known TModule
 module_walk all_leaf = record { checks = module_checks all_leaf; after = after_module all_leaf }

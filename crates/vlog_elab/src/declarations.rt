@@ -6,7 +6,7 @@ ghost use Rattle.vlog_read.specs.declared.tree.Decl.{Decl};
 ghost use Rattle.vlog_elab.specs.declared.said.Said.{Said};
 ghost use Rattle.vlog_elab.specs.Check.{first};
 ghost use Rattle.vlog_elab.specs.Text.{header_names, header_decls, range_of};
-ghost use Rattle.vlog_elab.specs.Faces.{Directed, Wired, Placed, range_places, name_place, decl_places, item_places, places, said, ports, same_range};
+ghost use Rattle.vlog_elab.specs.Faces.{Directed, Wired, Placed, range_places, name_place, decl_places, item_places, places, said, ports};
 ghost use Rattle.vlog_elab.specs.Declarations.{inside_checks};
 ghost use Rattle.vlog_elab.specs.Walk.{Walks, Gives, Found};
 ghost use Rattle.vlog_elab.specs.Walks.{header_walk, place_walk, port_walk};
@@ -15,6 +15,7 @@ use crate::face::Port;
 use crate::fault::{ElabFault, ElabKind, fault, fault_at};
 use crate::names::Names;
 use crate::said::Said;
+use crate::same::same_range;
 use emh_base::Range;
 use std::alloc::Global;
 use vlog_read::{At, Decl, Header, Item, Span, TModule};
@@ -269,15 +270,4 @@ fn wire<'a>(
     }
     said.wires.push(&name.name, range)?;
     Ok(())
-}
-
-/// Whether two ranges are the same, or both are none.
-pub fn same_range(a: Option<Range>, b: Option<Range>) -> bool
-    ensures { result ≡ same_range a b }
-{
-    match (a, b) {
-        (None, None) => true,
-        (Some(a), Some(b)) => a.left == b.left && a.right == b.right,
-        _ => false,
-    }
 }

@@ -4,9 +4,11 @@
 mod declarations;
 mod face;
 mod fault;
+mod modules;
 mod names;
 mod net;
 mod ports;
 mod said;
+mod same;
 
 pub use fault::{ElabFault, ElabKind};
