@@ -2,3 +2,4 @@ pub mod Naming
 pub mod Walking
 pub mod Declaring
 pub mod Alike
+pub mod Knowing

@@ -56,7 +56,7 @@ place-None q es h = at_o (place_of es q) (sym (is_there-place 0 q es) ∙ h)
 pub texts-push : {V : Type 0} (es : List (Bor (List ℕ) × V)) (e : Bor (List ℕ) × V) → texts (es ++ e ∷ []) ≡ texts es ++ (e.0.now, e.1) ∷ []
 texts-push es e = grind (arith, common_steps)
 
-bytes_eq-sym : (a b : List ℕ) → bytes_eq a b ≡ bytes_eq b a
+pub bytes_eq-sym : (a b : List ℕ) → bytes_eq a b ≡ bytes_eq b a
 bytes_eq-sym a b = same_from_decides _ _ (bytes_eq-Decides a b) (decides_sym (bytes_eq-Decides b a))
   where
     decides_sym : {r : Bool} → Decides r (b ≡ a) → Decides r (a ≡ b)
@@ -70,7 +70,7 @@ place-kept : (o : Option ℕ) → cond (is_some o) o None ≡ o
 place-kept (Some x) = refl
 place-kept None = refl
 
-same_name : (a b : List ℕ) → bytes_eq a b ≡ true → a ≡ b
+pub same_name : (a b : List ℕ) → bytes_eq a b ≡ true → a ≡ b
 same_name a b h = grind (arith, bytes_eq-Decides)
 
 -- what has a place keeps it
