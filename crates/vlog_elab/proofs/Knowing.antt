@@ -19,17 +19,8 @@ use Rattle.vlog_elab.specs.Faces.{has_module, added, faces, face, row_face, know
 use Rattle.vlog_elab.specs.Declarations.{declaration_checks}
 use Rattle.vlog_elab.specs.Walk.{Walk, first_fault, at_end}
 use Rattle.vlog_elab.specs.Walks.{module_walk, after_module, with_module}
-use Rattle.vlog_elab.proofs.Naming.{same_name}
+use Rattle.vlog_elab.proofs.Naming.{or-false, one_or_not, same_name}
 use Rattle.vlog_elab.proofs.Walking.{each_after-append, walked, known-at_end}
-
-or-false : (b : Bool) → (b || false) ≡ b
-or-false true = refl
-or-false false = refl
-
-one_or_not : (p e r h : Bool) → (h ≡ true → e ≡ true → p ≡ true) → (p || cond h r (e || r)) ≡ ((p || e) || r)
-one_or_not p e r false f = sym (or_assoc p e r)
-one_or_not p false r true f = rw (or-false p) refl
-one_or_not p true r true f = rw (f refl refl) refl
 
 any-one_or_not : {X : Type 0} (t : X → Bool) (h : Bool) (x : X) (xs : List X) → list_any t (cond h [] (x ∷ []) ++ xs) ≡ cond h (list_any t xs) (t x || list_any t xs)
 any-one_or_not t true x xs = refl

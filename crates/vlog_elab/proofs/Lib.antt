@@ -3,3 +3,4 @@ pub mod Walking
 pub mod Declaring
 pub mod Alike
 pub mod Knowing
+pub mod Joining

@@ -1,5 +1,5 @@
 -- Names with values: what is found after one more, and where.
-use Rattle.std.proofs.Common.{arith, ◌≡◌, ℕ, zero, suc, ◌+◌, ◌-◌, ◌≤◌, [], ◌∷◌, ◌++◌, None, Some, Option, Bool, true, false, List, Bor, map, length, slice_get, is_some, refl, sym, ◌∙◌, ap, cond}
+use Rattle.std.proofs.Common.{arith, ◌≡◌, ℕ, zero, suc, ◌+◌, ◌-◌, ◌≤◌, [], ◌∷◌, ◌++◌, None, Some, Option, Bool, true, false, List, Bor, map, length, slice_get, is_some, refl, sym, ◌∙◌, ap, cond, append_assoc}
 use Rattle.std.specs.BTreeMap.{BTreeMap, get_by, UpdatesBy}
 use Rattle.std.specs.Cmp.Lexicographic.{slice_cmp}
 use Rattle.std.specs.List.{position_from}
@@ -10,10 +10,15 @@ use Rattle.std.specs.Str.{bytes_eq}
 use Rattle.std.proofs.lemmas.Map.Text.{btree_map_updates_str}
 use Rattle.std.proofs.lemmas.Slice.Eq.{bytes_eq-Decides}
 use Rattle.std.proofs.lemmas.Grind.{common_steps}
-use Rattle.std.proofs.lemmas.List.{length-map}
+use Rattle.std.specs.Prelude.{◌||◌, if◌then◌else◌}
+use Rattle.std.proofs.Math.Bool.{or_assoc}
+use Rattle.std.proofs.lemmas.List.{length-map, append-nil}
 use Rattle.std.proofs.lemmas.Bool.Decides.{same_from_decides}
 use Rattle.std.specs.Bool.{Decides}
-use Rattle.vlog_elab.specs.Named.{place_of, named, is_there}
+use Rattle.vlog_elab.specs.Check.{each_after}
+use Rattle.vlog_elab.specs.Named.{place_of, named, is_there, firsts}
+use Rattle.vlog_elab.specs.Walks.{with_new}
+use Rattle.vlog_elab.proofs.Walking.{each_after-append}
 use Rattle.vlog_elab.specs.Agree.{texts, Agrees}
 
 -- the place of the first that passes, after one more at the end
@@ -121,3 +126,61 @@ there-None {V} q es h = at_o (named es q) (is_there-place 0 q es ∙ ap is_some 
     at_o : (o : Option V) → is_some o ≡ false → o ≡ None
     at_o None h = refl
     at_o (Some x) h = absurd (cc h)
+
+-- Tests.
+
+pub or-false : (b : Bool) → (b || false) ≡ b
+or-false true = refl
+or-false false = refl
+
+pub one_or_not : (p e r h : Bool) → (h ≡ true → e ≡ true → p ≡ true) → (p || cond h r (e || r)) ≡ ((p || e) || r)
+one_or_not p e r false f = sym (or_assoc p e r)
+one_or_not p false r true f = rw (or-false p) refl
+one_or_not p true r true f = rw (f refl refl) refl
+
+pub there-append : {V : Type 0} (es fs : List (List ℕ × V)) (q : List ℕ) → is_there (es ++ fs) q ≡ (is_there es q || is_there fs q)
+there-append [] fs q = refl
+there-append (e ∷ es) fs q = elim (bytes_eq q e.0) as (λ b. is_some (cond b (Some e.1) (named (es ++ fs) q)) ≡ (is_some (cond b (Some e.1) (named es q)) || is_there fs q)) [ true ↦ refl | false ↦ there-append es fs q ]
+
+pub there-one : {V : Type 0} (e : List ℕ × V) (q : List ℕ) → is_there (e ∷ []) q ≡ bytes_eq q e.0
+there-one e q = elim (bytes_eq q e.0) as (λ b. is_some (cond b (Some e.1) None) ≡ b) [ true ↦ refl | false ↦ refl ]
+
+there-one_or_not : {V : Type 0} (h : Bool) (e : List ℕ × V) (es : List (List ℕ × V)) (q : List ℕ) → is_there (cond h [] (e ∷ []) ++ es) q ≡ cond h (is_there es q) (bytes_eq q e.0 || is_there es q)
+there-one_or_not true e es q = refl
+there-one_or_not false e es q = there-append (e ∷ []) es q ∙ ap (λ b. b || is_there es q) (there-one e q)
+
+-- The first of each name.
+
+-- a name is there where it is there before, or is among the first of those that follow
+firsts-there_after : {V : Type 0} (before es : List (List ℕ × V)) (q : List ℕ)
+    → (is_there before q || is_there (each_after (λ before (e : List ℕ × V). if is_there before e.0 then [] else e ∷ []) before es) q) ≡ is_there (before ++ es) q
+firsts-there_after before [] q = or-false (is_there before q) ∙ ap (λ es. is_there es q) (sym (append-nil before))
+firsts-there_after {V} before (e ∷ es) q =
+  let rest : List (List ℕ × V) = each_after (λ before (e : List ℕ × V). if is_there before e.0 then [] else e ∷ []) (before ++ e ∷ []) es in
+  let known_before : is_there before e.0 ≡ true → bytes_eq q e.0 ≡ true → is_there before q ≡ true
+    = λ h f. let same : q ≡ e.0 = same_name q e.0 f in (rw same h) in
+  ap (λ b. is_there before q || b) (there-one_or_not (is_there before e.0) e rest q)
+  ∙ one_or_not (is_there before q) (bytes_eq q e.0) (is_there rest q) (is_there before e.0) known_before
+  ∙ ap (λ b. b || is_there rest q) (sym (there-append before (e ∷ []) q ∙ ap (λ b. is_there before q || b) (there-one e q)))
+  ∙ firsts-there_after (before ++ e ∷ []) es q
+  ∙ ap (λ es. is_there es q) (append_assoc before (e ∷ []) es)
+
+pub firsts-there : {V : Type 0} (es : List (List ℕ × V)) (q : List ℕ) → is_there (firsts es) q ≡ is_there es q
+firsts-there es q = firsts-there_after [] es q
+
+-- one more goes last where its name is new
+pub firsts-push : {V : Type 0} (es : List (List ℕ × V)) (e : List ℕ × V) → firsts (es ++ e ∷ []) ≡ (if is_there (firsts es) e.0 then firsts es else firsts es ++ e ∷ [])
+firsts-push {V} es e =
+  each_after-append (λ before (e : List ℕ × V). if is_there before e.0 then [] else e ∷ []) [] es (e ∷ [])
+  ∙ ap (λ rest. firsts es ++ rest) (append-nil (if is_there es e.0 then [] else e ∷ []))
+  ∙ at_h (is_there es e.0)
+  ∙ ap (λ (h : Bool). cond h (firsts es) (firsts es ++ e ∷ [])) (sym (firsts-there es e.0))
+  where
+    at_h : (h : Bool) → firsts es ++ cond h [] (e ∷ []) ≡ cond h (firsts es) (firsts es ++ e ∷ [])
+    at_h true = append-nil (firsts es)
+    at_h false = refl
+
+pub firsts-append : {V : Type 0} (es fs : List (List ℕ × V)) → firsts (es ++ fs) ≡ with_new (firsts es) fs
+firsts-append es [] = ap firsts (append-nil es)
+firsts-append es (f ∷ fs) =
+  ap firsts (sym (append_assoc es (f ∷ []) fs)) ∙ firsts-append (es ++ f ∷ []) fs ∙ ap (λ es. with_new es fs) (firsts-push es f)

@@ -156,3 +156,20 @@ known-at_end w known more before (x ∷ xs) =
 pub walks-then : {S X T : Type 0} {w : Walk S X} {s t : S} {xs : List X} (ys : List X) (r : Result T ElabFault) (u : S) → Passed w s xs t → Walks w t ys r u → Walks w s (xs ++ ys) r u
 walks-then ys (Ok v) u p q = passed-then p q
 walks-then ys (Err e) u p q = fails-then p q
+
+-- A loop over checks.
+
+pub checks-more : {Y : Type 0} (f : Y → List Check) (ys : List Y) (i : ℕ) (y : Y) → i < length ys → y ≡ get_or ys i y
+    → first (flat_map f (take i ys)) ≡ None → first (f y) ≡ None → first (flat_map f (take (i + 1) ys)) ≡ None
+checks-more f ys i y within here p q =
+  ap (λ ys. first (flat_map f ys)) (one_more ys i y within here) ∙ ap first (flat_map-push f (take i ys) y)
+  ∙ first-append (flat_map f (take i ys)) (f y) ∙ (rw (p, q) refl)
+
+pub checks-fail : {Y : Type 0} (f : Y → List Check) (ys : List Y) (i : ℕ) (y : Y) (e : ElabFault) → i < length ys → y ≡ get_or ys i y
+    → first (flat_map f (take i ys)) ≡ None → Found (first (f y)) e → Found (first (flat_map f ys)) e
+checks-fail f ys i y e within here p q =
+  let rest : List Check = flat_map f (drop (i + 1) ys) in
+  let parts : first (flat_map f ys) ≡ or_else (first (flat_map f (take i ys))) (or_else (first (f y)) (first rest))
+    = ap (λ ys. first (flat_map f ys)) (parted ys i y within here) ∙ ap first (flat_map-append f (take i ys) (y ∷ drop (i + 1) ys))
+    ∙ first-append (flat_map f (take i ys)) (f y ++ rest) ∙ ap (or_else (first (flat_map f (take i ys)))) (first-append (f y) rest) in
+  found-along _ _ e parts (found-after _ _ e p (found-or _ _ e q))

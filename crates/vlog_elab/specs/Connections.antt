@@ -1,5 +1,5 @@
 -- The second round: nets, instances and connections.
-use Rattle.std.specs.Prelude.{ℕ, ◌-◌, ◌+◌, ◌==◌, nat_lt, nat_le, Bool, false, ◌&&◌, ◌||◌, not, if◌then◌else◌, List, [], ◌∷◌, ◌++◌, length, slice_get, Option, Some, None, is_some, is_none, bytes_eq, find, sum_by}
+use Rattle.std.specs.Prelude.{ℕ, ◌-◌, ◌+◌, ◌==◌, nat_lt, nat_le, Bool, true, false, ◌&&◌, ◌||◌, not, if◌then◌else◌, List, [], ◌∷◌, ◌++◌, length, slice_get, Option, Some, None, option_and_then, is_some, is_none, sum_by}
 use Rattle.std.specs.List.{flat_map, list_any}
 use Rattle.emh_base.specs.declared.plain.Range.{Range}
 use Rattle.emh_base.specs.declared.plain.Plain.{Plain}
@@ -12,10 +12,10 @@ use Rattle.vlog_read.specs.declared.tree.TModule.{TModule}
 use Rattle.vlog_elab.specs.declared.fault.ElabKind.TheVariants as kind
 use Rattle.vlog_elab.specs.declared.face.Port.{Port}
 use Rattle.vlog_elab.specs.declared.face.Face.{Face}
-use Rattle.vlog_elab.specs.declared.net.Net.{Net}
-use Rattle.vlog_elab.specs.declared.net.Scope.{Scope}
+use Rattle.vlog_elab.specs.declared.scope.Net.{Net}
+use Rattle.vlog_elab.specs.declared.scope.Scope.{Scope}
 use Rattle.vlog_elab.specs.Check.{Check, check, check_at, each_after}
-use Rattle.vlog_elab.specs.Named.{Named, named, is_there}
+use Rattle.vlog_elab.specs.Named.{Named, named, place_of, is_there}
 use Rattle.vlog_elab.specs.Text.{is_leaf}
 use Rattle.vlog_elab.specs.Faces.{faces}
 use Rattle.vlog_elab.specs.Steps.{Step, Declares, Places, Connects, Uses, Fits, steps, met}
@@ -24,27 +24,31 @@ abbrev pub is_implied : Option Net → Bool
 is_implied None = false
 is_implied (Some net) = net.implied
 
--- a connection of the port of that name
-abbrev pub is_to : List ℕ → TConn → Bool
-is_to port c = is_port c.port
-  where
-    is_port : Option At → Bool
-    is_port None = false
-    is_port (Some n) = bytes_eq port n.name
+-- the port that a connection names
+abbrev pub port_named : Option At → Named (Unit {0})
+port_named None = []
+port_named (Some n) = (n.name, tt) ∷ []
 
--- by order after one by name, or the reverse
-abbrev pub mixes : List TConn → Option At → Bool
-mixes before None = list_any (λ (c : TConn). is_some c.port) before
-mixes before (Some n) = list_any (λ (c : TConn). is_none c.port) before
+-- the ports that connections name
+abbrev pub ports_named : List TConn → Named (Unit {0})
+ports_named = flat_map (λ (c : TConn). port_named c.port)
 
--- By order: it is past the last port; at its first token, or the one after it, with the instance's name. By name: there is no
--- such port, or it was connected before.
-abbrev pub port_checks : Named Port → At → List TConn → TConn → Option At → List Check
-port_checks ports inst before c None =
-    check_at kind.TooManyConnections c.at inst.name (nat_le (length ports) (length before)) ∷ []
-port_checks ports inst before c (Some n) =
-    check kind.UnknownPort n (not (is_there ports n.name))
-    ∷ check kind.PortTwice n (list_any (is_to n.name) before)
+-- one by name after one by order, or the reverse
+abbrev pub mixes : List TConn → Bool → Bool
+mixes before true = list_any (λ (c : TConn). is_none c.port) before
+mixes before false = list_any (λ (c : TConn). is_some c.port) before
+
+-- Connections by order and by name; at its first token, or the one after it, with the instance's name. By order: it is past
+-- the last port; there too. By name: there is no such port, or it was connected before.
+abbrev pub conn_checks : Named Port → At → List TConn → TConn → Option At → List Check
+conn_checks ports inst before c None =
+    check_at kind.Mixed c.at inst.name (mixes before false)
+    ∷ check_at kind.TooManyConnections c.at inst.name (nat_le (length ports) (length before))
+    ∷ []
+conn_checks ports inst before c (Some n) =
+    check_at kind.Mixed c.at inst.name (mixes before true)
+    ∷ check kind.UnknownPort n (not (is_there ports n.name))
+    ∷ check kind.PortTwice n (is_there (ports_named before) n.name)
     ∷ []
 
 -- the index is one of the range's
@@ -87,10 +91,14 @@ part_width nets (Bit n index) = 1
 part_width nets (Bits n range) = width (Some range)
 part_width nets (Lit size value) = size
 
--- the port that a connection is to, after these connections
+-- the place of the port that a connection is to, after these connections
+abbrev pub port_place : Named Port → List TConn → Option At → Option ℕ
+port_place ports before None = Some (length before)
+port_place ports before (Some n) = place_of ports n.name
+
+-- the port that a connection is to
 abbrev pub port_at : Named Port → List TConn → Option At → Option (List ℕ × Port)
-port_at ports before None = slice_get ports (length before)
-port_at ports before (Some n) = find (λ e. bytes_eq n.name e.0) ports
+port_at ports before port = option_and_then (slice_get ports) (port_place ports before port)
 
 -- an expression that isn't empty has as many bits as its port; at its first token, with the port's name
 abbrev pub width_checks : Named Net → TConn → List Part → Option (List ℕ × Port) → List Check
@@ -112,8 +120,7 @@ step_checks s (Places face master n) =
     check kind.UnknownModule master (is_none face)
     ∷ check kind.NameTaken n (is_there s.nets n.name || is_there s.insts n.name)
     ∷ []
-step_checks s (Connects ports inst before c) =
-    check_at kind.Mixed c.at inst.name (mixes before c.port) ∷ port_checks ports inst before c c.port
+step_checks s (Connects ports inst before c) = conn_checks ports inst before c c.port
 step_checks s (Uses part) = part_checks s part
 step_checks s (Fits ports before c) = width_checks s.nets c c.parts (port_at ports before c.port)
 

@@ -14,8 +14,8 @@ use Rattle.vlog_read.specs.declared.tree.Item.TheVariants.{Decl as Declaration, 
 use Rattle.vlog_read.specs.declared.tree.TModule.{TModule}
 use Rattle.vlog_elab.specs.declared.face.Port.{Port}
 use Rattle.vlog_elab.specs.declared.face.Face.{Face}
-use Rattle.vlog_elab.specs.declared.net.Net.{Net}
-use Rattle.vlog_elab.specs.declared.net.Scope.{Scope}
+use Rattle.vlog_elab.specs.declared.scope.Net.{Net}
+use Rattle.vlog_elab.specs.declared.scope.Scope.{Scope}
 use Rattle.vlog_elab.specs.Check.{each_after}
 use Rattle.vlog_elab.specs.Named.{Named, named, firsts}
 use Rattle.vlog_elab.specs.Text.{header_decls, range_of}

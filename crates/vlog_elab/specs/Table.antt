@@ -25,12 +25,12 @@ use Rattle.vlog_read.specs.declared.tree.TModule.{TModule}
 use Rattle.vlog_read.specs.declared.tree.Tree.{Tree}
 use Rattle.vlog_elab.specs.declared.face.Port.{Port}
 use Rattle.vlog_elab.specs.declared.face.Face.{Face}
-use Rattle.vlog_elab.specs.declared.net.Net.{Net}
-use Rattle.vlog_elab.specs.Named.{Named, named, place_of, numbered}
+use Rattle.vlog_elab.specs.declared.scope.Net.{Net}
+use Rattle.vlog_elab.specs.Named.{Named, named, place_of, is_there, numbered}
 use Rattle.vlog_elab.specs.Text.{is_leaf}
 use Rattle.vlog_elab.specs.Faces.{ports, added, faces}
 use Rattle.vlog_elab.specs.Steps.{nets, ports_of}
-use Rattle.vlog_elab.specs.Connections.{net_range, is_to}
+use Rattle.vlog_elab.specs.Connections.{net_range, port_named}
 
 -- a net's id is its place among the module's nets
 abbrev pub net_id : Named Net → List ℕ → NetId
@@ -67,6 +67,10 @@ conn_bits ns (p ∷ ps) = conn.Bits (flat_map (part_bits ns) (p ∷ ps))
 abbrev pub conn_of : Named Net → Option TConn → Conn
 conn_of ns None = conn.Open
 conn_of ns (Some c) = conn_bits ns c.parts
+
+-- a connection by name to the port of that name
+abbrev pub is_to : List ℕ → TConn → Bool
+is_to port c = is_there (port_named c.port) port
 
 -- the connection to a port, by its place or by its name
 abbrev pub conn_to : List TConn → ℕ → List ℕ → Option TConn

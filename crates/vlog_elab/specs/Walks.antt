@@ -5,7 +5,7 @@ use Rattle.vlog_read.specs.declared.tree.TModule.{TModule}
 use Rattle.vlog_elab.specs.declared.face.Port.{Port}
 use Rattle.vlog_elab.specs.declared.face.Known.{Known}
 use Rattle.vlog_elab.specs.declared.said.Said.{Said}
-use Rattle.vlog_elab.specs.declared.net.Scope.{Scope}
+use Rattle.vlog_elab.specs.declared.scope.Scope.{Scope}
 use Rattle.vlog_elab.specs.Named.{Named, is_there}
 use Rattle.vlog_elab.specs.Text.{is_leaf}
 use Rattle.vlog_elab.specs.Faces.{Place, direction_at, wire_at, port_of, ports, face_with}

@@ -6,9 +6,11 @@ mod face;
 mod fault;
 mod modules;
 mod names;
-mod net;
+mod connections;
 mod ports;
 mod said;
+mod scope;
+mod select;
 mod same;
 
 pub use fault::{ElabFault, ElabKind};
