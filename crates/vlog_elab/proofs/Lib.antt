@@ -4,3 +4,4 @@ pub mod Declaring
 pub mod Alike
 pub mod Knowing
 pub mod Joining
+pub mod Meeting

@@ -76,7 +76,3 @@ inst_at (Fits ports before c) = []
 -- the nets, in the order of their first mention, and the instances that were met before a step
 abbrev pub met : List Step → Scope
 met before = record { nets = firsts (flat_map net_at before); insts = flat_map inst_at before }
-
--- the nets of a module
-abbrev pub nets : Named Face → TModule → Named Net
-nets faces m = (met (steps faces m)).nets

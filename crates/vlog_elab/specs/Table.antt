@@ -1,5 +1,5 @@
 -- The table that a text gives: ids, nets, ports, instances and their connections.
-use Rattle.std.specs.Prelude.{ℕ, zero, suc, ◌-◌, ◌+◌, ◌*◌, ◌/◌, ◌%◌, ◌^◌, ◌==◌, Bool, false, if◌then◌else◌, List, [], ◌∷◌, ◌++◌, map, find, length, slice_get, Option, Some, None, is_some, unwrap_or}
+use Rattle.std.specs.Prelude.{ℕ, zero, suc, ◌-◌, ◌+◌, ◌*◌, ◌/◌, ◌%◌, ◌^◌, ◌==◌, Bool, true, false, if◌then◌else◌, List, [], ◌∷◌, ◌++◌, map, find, length, slice_get, Option, Some, None, is_some, unwrap_or}
 use Rattle.std.specs.List.{flat_map, range_with_len}
 use Rattle.emh_base.specs.declared.ids.ModId.{ModId}
 use Rattle.emh_base.specs.declared.ids.NetId.{NetId}
@@ -15,6 +15,7 @@ use Rattle.emh_base.specs.declared.plain.PModule.{PModule}
 use Rattle.emh_base.specs.declared.plain.Plain.{Plain}
 use Rattle.flatten_rules.specs.Lookup.{width}
 use Rattle.vlog_read.specs.declared.tree.At.{At}
+use Rattle.vlog_read.specs.declared.tree.Decl.{Decl}
 use Rattle.vlog_read.specs.declared.tree.Part.{Part}
 use Rattle.vlog_read.specs.declared.tree.Part.TheVariants.{Name, Bit, Bits, Lit}
 use Rattle.vlog_read.specs.declared.tree.TConn.{TConn}
@@ -26,11 +27,38 @@ use Rattle.vlog_read.specs.declared.tree.Tree.{Tree}
 use Rattle.vlog_elab.specs.declared.face.Port.{Port}
 use Rattle.vlog_elab.specs.declared.face.Face.{Face}
 use Rattle.vlog_elab.specs.declared.scope.Net.{Net}
-use Rattle.vlog_elab.specs.Named.{Named, named, place_of, is_there, numbered}
-use Rattle.vlog_elab.specs.Text.{is_leaf}
+use Rattle.vlog_elab.specs.Named.{Named, named, place_of, is_there, firsts, numbered}
+use Rattle.vlog_elab.specs.Text.{is_leaf, header_decls, range_of}
 use Rattle.vlog_elab.specs.Faces.{ports, added, faces}
-use Rattle.vlog_elab.specs.Steps.{nets, ports_of}
+use Rattle.vlog_elab.specs.Steps.{ports_of}
 use Rattle.vlog_elab.specs.Connections.{net_range, port_named}
+
+-- the net that a part of an expression mentions
+abbrev pub part_net : Part → Named Net
+part_net (Name n) = (n.name, record { range = None; implied = true }) ∷ []
+part_net (Bit n index) = []
+part_net (Bits n range) = []
+part_net (Lit size value) = []
+
+abbrev pub name_net : Option Range → At → List ℕ × Net
+name_net range n = (n.name, record { range = range; implied = false })
+
+abbrev pub decl_nets : Decl → Named Net
+decl_nets d = map (name_net (range_of d)) d.names
+
+abbrev pub conn_nets : TConn → Named Net
+conn_nets c = flat_map part_net c.parts
+
+abbrev pub inst_nets : TInst → Named Net
+inst_nets i = flat_map conn_nets i.conns
+
+abbrev pub item_nets : Item → Named Net
+item_nets (Declaration d) = decl_nets d
+item_nets (Insts master insts) = flat_map inst_nets insts
+
+-- the nets of a module, in the order of their first mention; a header of bare names mentions none
+abbrev pub nets : TModule → Named Net
+nets m = firsts (flat_map decl_nets (header_decls m.header) ++ flat_map item_nets m.items)
 
 -- a net's id is its place among the module's nets
 abbrev pub net_id : Named Net → List ℕ → NetId
@@ -115,10 +143,10 @@ row fs all_leaf id m = record {
   name = m.name.name;
   leaf = is_leaf all_leaf m;
   locked = false;
-  nets = numbered net_row 0 (nets fs m);
-  ports = map (port_row (nets fs m)) (ports m);
-  insts = numbered (inst_row fs (nets fs m)) 0 (insts m);
-  next_net = length (nets fs m);
+  nets = numbered net_row 0 (nets m);
+  ports = map (port_row (nets m)) (ports m);
+  insts = numbered (inst_row fs (nets m)) 0 (insts m);
+  next_net = length (nets m);
   next_inst = length (insts m);
 }
 

@@ -7,6 +7,7 @@ mod fault;
 mod modules;
 mod names;
 mod connections;
+mod nets;
 mod ports;
 mod said;
 mod scope;
