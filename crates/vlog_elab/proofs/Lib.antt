@@ -5,3 +5,4 @@ pub mod Alike
 pub mod Knowing
 pub mod Joining
 pub mod Meeting
+pub mod Sourcing

@@ -73,10 +73,14 @@ abbrev pub offset_in : Option Range → ℕ → ℕ
 offset_in None index = 0
 offset_in (Some r) index = (r.left - index) + (index - r.left)
 
+-- the tie that a bit of a value is, at a place from the right
+abbrev pub tie_of : ℕ → ℕ → Src
+tie_of value place = if value / 2 ^ place % 2 == 1 then src.Tie1 else src.Tie0
+
 -- the lowest `size` bits of a value, the highest of them first
 abbrev pub literal_bits : ℕ → ℕ → List Src
 literal_bits zero value = []
-literal_bits (suc n) value = (if value / 2 ^ n % 2 == 1 then src.Tie1 else src.Tie0) ∷ literal_bits n value
+literal_bits (suc n) value = tie_of value n ∷ literal_bits n value
 
 -- the bits of a part of an expression, leftmost first
 abbrev pub part_bits : Named Net → Part → List Src

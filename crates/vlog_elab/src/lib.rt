@@ -6,6 +6,7 @@ mod face;
 mod fault;
 mod modules;
 mod names;
+mod bits;
 mod connections;
 mod nets;
 mod ports;

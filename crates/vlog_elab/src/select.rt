@@ -1,5 +1,5 @@
 //! Bits of nets that are selected by index, and how many bits an expression has.
-ghost use Rattle.std.specs.Prelude.{◌≡◌, ◌==◌, sum_by};
+ghost use Rattle.std.specs.Prelude.{◌≡◌, ◌==◌, ◌≤◌, ◌^◌, sum_by};
 ghost use Rattle.flatten_rules.specs.Lookup.{width};
 ghost use Rattle.vlog_elab.specs.Connections.{has_index, runs_against, has_indices, part_width};
 
@@ -44,7 +44,8 @@ pub fn has_indices(range: Option<Range>, select: Range) -> bool
 
 /// How many bits a net with a range has: at most 2^32.
 pub fn width(range: Option<Range>) -> u64
-    ensures { result ≡ width range }
+    ensures value { result ≡ width range }
+    ensures fits { result ≤ 2 ^ 32 }
 {
     match range {
         None => 1,
