@@ -19,6 +19,7 @@ use Rattle.vlog_elab.specs.Faces.{has_module, added, faces, face, row_face, know
 use Rattle.vlog_elab.specs.Declarations.{declaration_checks}
 use Rattle.vlog_elab.specs.Walk.{Walk, first_fault, at_end}
 use Rattle.vlog_elab.specs.Walks.{module_walk, after_module, with_module}
+use Rattle.vlog_elab.proofs.Numbering.{numbered-append}
 use Rattle.vlog_elab.proofs.Naming.{or-false, one_or_not, same_name}
 use Rattle.vlog_elab.proofs.Walking.{each_after-append, walked, known-at_end}
 
@@ -64,12 +65,6 @@ there-faces M all_leaf ms q =
   ∙ ap (λ b. list_any (λ (m : PModule). bytes_eq q m.name) M.modules || b) (there-added all_leaf M.next_module (added M ms) q)
   ∙ ap (λ b. b || list_any (λ (m : TModule). bytes_eq q m.name.name) (added M ms)) (sym (or-false (list_any (λ (m : PModule). bytes_eq q m.name) M.modules)))
   ∙ among_added M [] ms q
-
-pub numbered-append : {X Y : Type 0} (make : ℕ → X → Y) (n : ℕ) (xs ys : List X) → numbered make n (xs ++ ys) ≡ numbered make n xs ++ numbered make (n + length xs) ys
-numbered-append make n [] ys = let none : n + 0 ≡ n = omega arith in rw none refl
-numbered-append make n (x ∷ xs) ys =
-  let e : n + 1 + length xs ≡ n + length (x ∷ xs) = grind arith in
-  ap (λ rest. make n x ∷ rest) (numbered-append make (n + 1) xs ys ∙ (rw e refl))
 
 -- one module more is added, or not
 added-more : (M : Plain) (before : List TModule) (m : TModule) → added M (before ++ m ∷ []) ≡ added M before ++ (if has_module M before m.name.name then [] else m ∷ [])

@@ -1,5 +1,6 @@
 pub mod Naming
 pub mod Walking
+pub mod Numbering
 pub mod Declaring
 pub mod Alike
 pub mod Knowing

@@ -9,6 +9,7 @@ pub mod Connections
 pub mod Walk
 pub mod Walks
 pub mod Table
+pub mod Pins
 pub mod Cycle
 pub mod Elaboration
 pub mod Law

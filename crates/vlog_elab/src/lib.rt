@@ -1,6 +1,7 @@
 //! Elaboration: from the tree of a netlist to its module table, or to the first rule that is broken.
 #![tactic(auto)]
 
+mod conns;
 mod declarations;
 mod face;
 mod fault;
