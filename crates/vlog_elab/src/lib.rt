@@ -11,6 +11,7 @@ mod bits;
 mod connections;
 mod nets;
 mod ports;
+mod rows;
 mod said;
 mod scope;
 mod select;
