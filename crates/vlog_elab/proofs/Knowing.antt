@@ -23,7 +23,7 @@ use Rattle.vlog_elab.proofs.Numbering.{numbered-append}
 use Rattle.vlog_elab.proofs.Naming.{or-false, one_or_not, same_name}
 use Rattle.vlog_elab.proofs.Walking.{each_after-append, walked, known-at_end}
 
-any-one_or_not : {X : Type 0} (t : X → Bool) (h : Bool) (x : X) (xs : List X) → list_any t (cond h [] (x ∷ []) ++ xs) ≡ cond h (list_any t xs) (t x || list_any t xs)
+pub any-one_or_not : {X : Type 0} (t : X → Bool) (h : Bool) (x : X) (xs : List X) → list_any t (cond h [] (x ∷ []) ++ xs) ≡ cond h (list_any t xs) (t x || list_any t xs)
 any-one_or_not t true x xs = refl
 any-one_or_not t false x xs = refl
 
@@ -67,7 +67,7 @@ there-faces M all_leaf ms q =
   ∙ among_added M [] ms q
 
 -- one module more is added, or not
-added-more : (M : Plain) (before : List TModule) (m : TModule) → added M (before ++ m ∷ []) ≡ added M before ++ (if has_module M before m.name.name then [] else m ∷ [])
+pub added-more : (M : Plain) (before : List TModule) (m : TModule) → added M (before ++ m ∷ []) ≡ added M before ++ (if has_module M before m.name.name then [] else m ∷ [])
 added-more M before m =
   each_after-append (λ before (m : TModule). if has_module M before m.name.name then [] else m ∷ []) [] before (m ∷ [])
   ∙ ap (λ rest. added M before ++ rest) (append-nil (if has_module M before m.name.name then [] else m ∷ []))

@@ -4,6 +4,7 @@ pub mod Numbering
 pub mod Declaring
 pub mod Alike
 pub mod Knowing
+pub mod Adding
 pub mod Joining
 pub mod Meeting
 pub mod Sourcing

@@ -1,5 +1,5 @@
 -- Names with values: what is found after one more, and where.
-use Rattle.std.proofs.Common.{arith, ◌≡◌, ℕ, zero, suc, ◌+◌, ◌-◌, ◌≤◌, [], ◌∷◌, ◌++◌, None, Some, Option, Bool, true, false, List, Bor, map, length, slice_get, is_some, refl, sym, ◌∙◌, ap, cond, append_assoc}
+use Rattle.std.proofs.Common.{arith, ◌≡◌, ℕ, zero, suc, ◌+◌, ◌-◌, ◌<◌, ◌≤◌, [], ◌∷◌, ◌++◌, None, Some, Option, Bool, true, false, List, Bor, map, length, slice_get, is_some, refl, sym, ◌∙◌, ap, cond, append_assoc}
 use Rattle.std.specs.BTreeMap.{BTreeMap, get_by, UpdatesBy}
 use Rattle.std.specs.Cmp.Lexicographic.{slice_cmp}
 use Rattle.std.specs.List.{position_from}
@@ -74,6 +74,9 @@ place-found None a h = absurd (cc h)
 place-kept : (o : Option ℕ) → cond (is_some o) o None ≡ o
 place-kept (Some x) = refl
 place-kept None = refl
+
+pub bytes_eq-refl : (a : List ℕ) → bytes_eq a a ≡ true
+bytes_eq-refl a = grind (arith, bytes_eq-Decides)
 
 pub same_name : (a b : List ℕ) → bytes_eq a b ≡ true → a ≡ b
 same_name a b h = grind (arith, bytes_eq-Decides)
@@ -184,3 +187,42 @@ pub firsts-append : {V : Type 0} (es fs : List (List ℕ × V)) → firsts (es +
 firsts-append es [] = ap firsts (append-nil es)
 firsts-append es (f ∷ fs) =
   ap firsts (sym (append_assoc es (f ∷ []) fs)) ∙ firsts-append (es ++ f ∷ []) fs ∙ ap (λ es. with_new es fs) (firsts-push es f)
+
+-- Places in joined lists.
+
+pub position_from-append : {X : Type 0} (t : X → Bool) (n : ℕ) (xs ys : List X)
+    → position_from t n (xs ++ ys) ≡ cond (is_some (position_from t n xs)) (position_from t n xs) (position_from t (n + length xs) ys)
+position_from-append t n [] ys = let none : n + 0 ≡ n = omega arith in rw none refl
+position_from-append t n (x ∷ xs) ys = elim (t x) as (λ b. cond b (Some n) (position_from t (n + 1) (xs ++ ys)) ≡ cond (is_some (cond b (Some n) (position_from t (n + 1) xs))) (cond b (Some n) (position_from t (n + 1) xs)) (position_from t (n + length (x ∷ xs)) ys)) [
+    true ↦ refl
+  | false ↦ let e : n + 1 + length xs ≡ n + length (x ∷ xs) = grind arith in position_from-append t (n + 1) xs ys ∙ (rw e refl)
+  ]
+
+pub position_from-below : {X : Type 0} (t : X → Bool) (n k : ℕ) (xs : List X) → position_from t n xs ≡ Some k → k < n + length xs
+position_from-below t n k [] h = absurd (cc h)
+position_from-below t n k (x ∷ xs) h = at_b (λ h. position_from-below t (n + 1) k xs h) (t x) h
+  where
+    at_b : (position_from t (n + 1) xs ≡ Some k → k < n + 1 + length xs) → (b : Bool) → cond b (Some n) (position_from t (n + 1) xs) ≡ Some k → k < n + length (x ∷ xs)
+    at_b more true h = let same : n ≡ k = cc h in grind arith
+    at_b more false h = let below : k < n + 1 + length xs = more h in grind arith
+
+-- a name that is there has its place there, whatever follows
+pub place-there : {V : Type 0} (es fs : List (List ℕ × V)) (q : List ℕ) → is_there es q ≡ true → place_of (es ++ fs) q ≡ place_of es q
+place-there {V} es fs q there =
+  position_from-append (λ (e : List ℕ × V). bytes_eq q e.0) 0 es fs
+  ∙ place-found (place_of es q) (position_from (λ (e : List ℕ × V). bytes_eq q e.0) (0 + length es) fs) (sym (is_there-place 0 q es) ∙ there)
+
+pub place-below : {V : Type 0} (es : List (List ℕ × V)) (q : List ℕ) (k : ℕ) → place_of es q ≡ Some k → k < length es
+place-below {V} es q k h = omega (arith, position_from-below (λ (e : List ℕ × V). bytes_eq q e.0) 0 k es h)
+
+-- a new name's place is the first after those that are there
+pub place-new : {V : Type 0} (es fs : List (List ℕ × V)) (e : List ℕ × V) → is_there es e.0 ≡ false → place_of (es ++ e ∷ fs) e.0 ≡ Some (length es)
+place-new {V} es fs e new =
+  let none : place_of es e.0 ≡ None = place-None e.0 es new in
+  let zero : 0 + length es ≡ length es = omega arith in
+  position_from-append (λ (f : List ℕ × V). bytes_eq e.0 f.0) 0 es (e ∷ fs)
+  ∙ (rw (none, bytes_eq-refl e.0, zero) refl)
+
+pub item-after : {X : Type 0} (xs ys : List X) (x : X) → slice_get (xs ++ x ∷ ys) (length xs) ≡ Some x
+item-after [] ys x = refl
+item-after (y ∷ xs) ys x = item-after xs ys x

@@ -15,6 +15,7 @@ mod rows;
 mod said;
 mod scope;
 mod select;
+mod table;
 mod same;
 
 pub use fault::{ElabFault, ElabKind};
