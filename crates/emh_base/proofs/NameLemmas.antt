@@ -22,7 +22,8 @@ IsName-from_tests (byte ∷ bytes) filled fits none = record {
   printable = list_all-from_position (byte ∷ bytes) (sym none);
 }
 
-all_before : (bytes : List ℕ) → list_all is_name_byte bytes ≡ true → length bytes ≤ position_or_len (λ byte. not (is_name_byte byte)) bytes
+all_before : (bytes : List ℕ) → list_all is_name_byte bytes ≡ true
+    → length bytes ≤ position_or_len (λ byte. not (is_name_byte byte)) bytes
 all_before [] h = omega arith
 all_before (byte ∷ bytes) h = grind (arith, all_before bytes)
 
@@ -46,11 +47,13 @@ is_bad_byte (Err (BadByte at)) = true
 is_bad_byte other = false
 
 no_bad_byte : (bytes : List ℕ) (place : Option ℕ) → length bytes ≤ 1024
-    → ((at : ℕ) → length bytes ≤ 1024 → place ≡ Some at → ◌≡◌ {A = Result (List ℕ) NameFault} (Err NoMemory) (Err (BadByte at)))
+    → ((at : ℕ) → length bytes ≤ 1024 → place ≡ Some at
+    → ◌≡◌ {A = Result (List ℕ) NameFault} (Err NoMemory) (Err (BadByte at)))
     → None ≡ place
 unfolding is_bad_byte
 no_bad_byte bytes None fits bad = refl
-no_bad_byte bytes (Some at) fits bad = absurd (both_ways (is_bad_byte (Err (BadByte at))) (ap is_bad_byte (sym (bad at fits refl))) refl)
+no_bad_byte bytes (Some at) fits bad =
+    absurd (both_ways (is_bad_byte (Err (BadByte at))) (ap is_bad_byte (sym (bad at fits refl))) refl)
 
 is_memory : Result (List ℕ) NameFault → Bool
 is_memory (Err NoMemory) = true

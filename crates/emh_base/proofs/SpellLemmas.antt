@@ -70,12 +70,15 @@ cancel_others (a ∷ m) [] r s stops stops' same =
     absurd (no_stop is_special (λ c plain. plain) a (flat_map spelled m ++ r) s (is_special a) refl stops'
     (sym (append_assoc (spelled a) (flat_map spelled m) r) ∙ same))
 cancel_others (a ∷ m) (b ∷ n) r s stops stops' same =
-    let front = same_byte is_special refl a b (flat_map spelled m ++ r) (flat_map spelled n ++ s) (is_special a) (is_special b)
-    refl refl (sym (append_assoc (spelled a) (flat_map spelled m) r) ∙ same ∙ append_assoc (spelled b) (flat_map spelled n) s) in
+    let front = same_byte is_special refl a b (flat_map spelled m ++ r) (flat_map spelled n ++ s) (is_special a)
+    (is_special b) refl refl
+    (sym (append_assoc (spelled a) (flat_map spelled m) r) ∙ same
+    ∙ append_assoc (spelled b) (flat_map spelled n) s) in
     let rest = cancel_others m n r s stops stops' front.1 in
     (ap₂ (λ byte name. byte ∷ name) front.0 rest.0, rest.1)
 
--- texts that begin with a spelled name and then a byte that ends it, or nothing, begin with the same name and go on alike
+-- two equal texts, each a spelled name and then nothing or a byte that ends it and more, have the same name, and the
+-- same after it
 pub cancel : (m n r s : List ℕ) → Stops r → Stops s → spell m ++ r ≡ spell n ++ s → (m ≡ n) × (r ≡ s)
 cancel [] [] r s stops stops' same = (refl, same)
 cancel [] (b ∷ n) r s stops stops' same =
@@ -87,7 +90,8 @@ cancel (a ∷ m) [] r s stops stops' same =
 cancel (a ∷ m) (b ∷ n) r s stops stops' same =
     let front = same_byte is_special_first refl a b (flat_map spelled m ++ r) (flat_map spelled n ++ s)
     (is_special_first a) (is_special_first b) refl refl
-    (sym (append_assoc (spelled_first a) (flat_map spelled m) r) ∙ same ∙ append_assoc (spelled_first b) (flat_map spelled n) s) in
+    (sym (append_assoc (spelled_first a) (flat_map spelled m) r) ∙ same
+    ∙ append_assoc (spelled_first b) (flat_map spelled n) s) in
     let rest = cancel_others m n r s stops stops' front.1 in
     (ap₂ (λ byte name. byte ∷ name) front.0 rest.0, rest.1)
 
@@ -254,7 +258,10 @@ answers word bytes (Ok name) read is named err =
     let spells : spell name ≡ word = read_name word name (read ∙ ap (λ b. Some b) (sym is)) in
     record {
       ok = spells;
-      not_spelled = (λ same. absurd (both_ways true (ap is_ok_result same) refl), λ none. absurd (none name named spells));
+      not_spelled = (
+        λ same. absurd (both_ways true (ap is_ok_result same) refl),
+        λ none. absurd (none name named spells),
+      );
       each_name = λ other also spelled. is ∙ read_once word bytes other read spelled;
     }
 answers word bytes (Err NotSpelled) read is named err = record {

@@ -37,15 +37,18 @@ walks_cancel m [] n [] r s ends ends' same =
     (ap (λ name. name ∷ []) both.0, both.1)
 walks_cancel m [] n (y ∷ ns) r s ends ends' same =
     let rest = path_text (y ∷ ns) ++ s in
-    let both = cancel m n r (47 ∷ rest) (stops r ends) refl (same ∙ append_assoc (spell n) (47 ∷ path_text (y ∷ ns)) s) in
+    let both = cancel m n r (47 ∷ rest) (stops r ends) refl
+    (same ∙ append_assoc (spell n) (47 ∷ path_text (y ∷ ns)) s) in
     absurd (no_slash r rest ends both.1)
 walks_cancel m (x ∷ ms) n [] r s ends ends' same =
     let rest = path_text (x ∷ ms) ++ r in
-    let both = cancel m n (47 ∷ rest) s refl (stops s ends') (sym (append_assoc (spell m) (47 ∷ path_text (x ∷ ms)) r) ∙ same) in
+    let both = cancel m n (47 ∷ rest) s refl (stops s ends')
+    (sym (append_assoc (spell m) (47 ∷ path_text (x ∷ ms)) r) ∙ same) in
     absurd (no_slash s rest ends' (sym both.1))
 walks_cancel m (x ∷ ms) n (y ∷ ns) r s ends ends' same =
     let both = cancel m n (47 ∷ path_text (x ∷ ms) ++ r) (47 ∷ path_text (y ∷ ns) ++ s) refl refl
-    (sym (append_assoc (spell m) (47 ∷ path_text (x ∷ ms)) r) ∙ same ∙ append_assoc (spell n) (47 ∷ path_text (y ∷ ns)) s) in
+    (sym (append_assoc (spell m) (47 ∷ path_text (x ∷ ms)) r) ∙ same
+    ∙ append_assoc (spell n) (47 ∷ path_text (y ∷ ns)) s) in
     let below = walks_cancel x ms y ns r s ends ends' (ap (drop 1) both.1) in
     (ap₂ (λ name names. name ∷ names) both.0 below.0, below.1)
 
@@ -120,12 +123,14 @@ last_apart (m ∷ names) (n ∷ others) net other same =
     (ap₂ (λ name list. name ∷ list) (ap (λ list. get_or list 0 m) same) rest.0, rest.1)
 
 -- a bit's text determines the path, the net and the index text
-pub bit_text_same : (names others : List (List ℕ)) (net other : List ℕ) (range range' : Option Range) (offset offset' : ℕ)
+pub bit_text_same : (names others : List (List ℕ)) (net other : List ℕ) (range range' : Option Range)
+    (offset offset' : ℕ)
     → AreNames names → AreNames others → IsName net → IsName other
     → bit_text names net range offset ≡ bit_text others other range' offset'
     → (names ≡ others) × (net ≡ other) × (index_text range offset ≡ index_text range' offset')
 bit_text_same names others net other range range' offset offset' are are' is is' same =
-    let both = path_cancel (names ++ net ∷ []) (others ++ other ∷ []) (index_text range offset) (index_text range' offset')
+    let both = path_cancel (names ++ net ∷ []) (others ++ other ∷ []) (index_text range offset)
+    (index_text range' offset')
     (names_and names net are is) (names_and others other are' is') (index_ends range offset) (index_ends range' offset')
     (sym (front_is_path names net (index_text range offset)) ∙ same
     ∙ front_is_path others other (index_text range' offset')) in
@@ -133,7 +138,8 @@ bit_text_same names others net other range range' offset offset' are are' is is'
     (apart.0, apart.1, both.1)
 
 -- a pin's text determines the path, the port and the index text
-pub pin_text_same : (names others : List (List ℕ)) (port other : List ℕ) (range range' : Option Range) (offset offset' : ℕ)
+pub pin_text_same : (names others : List (List ℕ)) (port other : List ℕ) (range range' : Option Range)
+    (offset offset' : ℕ)
     → AreNames names → AreNames others
     → pin_text names port range offset ≡ pin_text others other range' offset'
     → (names ≡ others) × (port ≡ other) × (index_text range offset ≡ index_text range' offset')
@@ -168,7 +174,8 @@ no_dot None offset x same = nothing_begins 46 x (sym same)
 no_dot (Some range) offset x same = absurd (omega (arith, ap (λ text. get_or text 0 0) same))
 
 -- no bit has the text of a pin
-pub bit_text_pin_text : (names others : List (List ℕ)) (net port : List ℕ) (range range' : Option Range) (offset offset' : ℕ)
+pub bit_text_pin_text : (names others : List (List ℕ)) (net port : List ℕ) (range range' : Option Range)
+    (offset offset' : ℕ)
     → AreNames names → AreNames others → IsName net
     → bit_text names net range offset ≡ pin_text others port range' offset' → ⊥
 bit_text_pin_text names others net port range range' offset offset' are are' is same =

@@ -49,7 +49,8 @@ orient_again MYR90 = refl
 
 abbrev orient_code : Coded Orient
 orient_code =
-    code_by (Bool × (Bool × Bool)) (coded× coded_bool (coded× coded_bool coded_bool)) bits_of_orient orient_of_bits orient_again
+    code_by (Bool × (Bool × Bool)) (coded× coded_bool (coded× coded_bool coded_bool)) bits_of_orient orient_of_bits
+    orient_again
 
 abbrev is_fixed : Status → Bool
 is_fixed Placed = false

@@ -40,7 +40,7 @@ impl<T> List<T> {
     }
 
     /// The allocator that the list was made with.
-    pub(crate) fn alloc(&self) -> Global {
+    pub fn alloc(&self) -> Global {
         *self.items.allocator()
     }
 

@@ -55,7 +55,7 @@ pub enum Rule {
     BadBuffer,
     /// A fan-out is below 2 or above 1,000,000, or a grid is 0 or above 1,000,000.
     BadNumber,
-    /// Some walk down the instances of the table would be longer than 256.
+    /// Some walk down the instances of the table would have more than 256.
     TooDeep,
     /// After the edit there would be more than 4,000,000 net bits of occurrences.
     TooManyBits,

@@ -59,7 +59,8 @@ fn spell_fault(fault: NameFault) -> SpellFault
 fn take_marks(word: &[u8], bytes: &mut [u8]) -> Option<usize>
     requires { length bytes.old ≡ 1024 }
     ensures len { length bytes.new ≡ 1024 }
-    ensures bytes { MatchOption result ((name : List ℕ) → length name ≤ 1024 → read_back true false word.now ≡ Some name → ⊥)
+    ensures bytes { MatchOption result
+        ((name : List ℕ) → length name ≤ 1024 → read_back true false word.now ≡ Some name → ⊥)
         (λ len. (len ≤ 1024) × (read_back true false word.now ≡ Some (take len bytes.new))) }
 {
     let mut len = 0;

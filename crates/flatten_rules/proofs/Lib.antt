@@ -3,6 +3,10 @@ pub mod Sound
 pub mod Extents
 pub mod Walks
 pub mod Order
+pub mod TextLaws
 pub mod Counted
 pub mod Within
 pub mod Rising
+pub mod Following
+pub mod Cycling
+pub mod Checking

@@ -7,6 +7,7 @@ use Rattle.emh_base.specs.declared.plain.PModule.{PModule}
 use Rattle.emh_base.specs.declared.plain.Plain.{Plain}
 use Rattle.flatten_rules.specs.Lookup.{module_of}
 use Rattle.flatten_rules.specs.Unfolding.{module_up}
+use Rattle.flatten_rules.specs.Cycle.{OnCycle}
 use Rattle.flatten_rules.specs.Order.{MastersFirst}
 use Rattle.flatten_rules.proofs.Sound.{All-find}
 use Rattle.flatten_rules.proofs.Walks.{id-of_found, last_step, up-own}
@@ -35,5 +36,5 @@ walk-falls M order start i (j ∷ up) m leads =
     let step = last_step M start i (j ∷ up) m leads in
     omega (arith, step-falls M order start i (j ∷ up) m leads, walk-falls M order start j up step.holder step.above)
 
-pub no_cycle-from_order : (M : Plain) → MastersFirst M → (m : PModule) (i : InstId) (up : List InstId) → module_up M m.id (i ∷ up) ≢ Some m
-no_cycle-from_order M order m i up leads = absurd (omega (arith, walk-falls M order m.id i up m leads))
+pub no_cycle-from_order : (M : Plain) → MastersFirst M → (m : PModule) → OnCycle M m → ⊥
+no_cycle-from_order M order m cycle = absurd (omega (arith, walk-falls M order m.id cycle.0 cycle.1 m cycle.2))

@@ -40,6 +40,9 @@ place-none false j e = refl
 place-within : (j n i : ℕ) → Some i ≡ cond (nat_lt j n) (Some j) None → i < n
 place-within j n i e = ⊎_elim (λ (below : j < n). omega (arith, place-some (nat_lt j n) i j e)) (λ (above : n ≤ j). absurd (not-past j n i above e)) (cases_lt j n)
 
+pub position-within : {X : Type 0} (p : X → Bool) (xs : List X) (i : ℕ) → Some i ≡ position p xs → i < length xs
+position-within p xs i at = place-within (position_or_len p xs) (length xs) i at
+
 -- the first item that passes, by its place
 pub find-from_place : {X : Type 0} (p : X → Bool) (xs : List X) (i : ℕ) → Some i ≡ position p xs → slice_get xs i ≡ find p xs
 find-from_place p xs i at = rw (← place-some _ i (position_or_len p xs) at) (sym (find_at p xs))
@@ -71,6 +74,12 @@ position-absent n number xs i parts rise here = position-none (λ x. n x == numb
     (λ under. let same : k ≡ i = omega arith in rw same (let other = here (omega arith) d in grind (arith, nat_tests)))
     (cases_lt i k))
     (cases_lt k i))
+
+-- an item stands at each place
+pub item-there : {X : Type 0} (xs : List X) (k : ℕ) → k < length xs → (x : X) × (slice_get xs k ≡ Some x)
+item-there [] k within = absurd (omega arith)
+item-there (x ∷ xs) zero within = (x, refl)
+item-there (x ∷ xs) (suc k) within = item-there xs k (omega arith)
 
 some-found : {X : Type 0} (o f : Option X) → o ≡ f → IsSome o → IsSomeAnd o (λ x. f ≡ Some x)
 some-found None f e some = absurd (false≢true some)

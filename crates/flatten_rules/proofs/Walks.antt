@@ -28,9 +28,13 @@ find-own {X} number xs rise k d within =
     position_or_len_is test xs k d (omega arith) (λ j below. let low = rise j k d below within in grind (arith, nat_tests)) (λ _. grind (arith, nat_tests)) in
     find_at test xs ∙ rw place (slice_get-get_or xs k d within)
 
-and_then-some : {X Y : Type 0} (f : X → Option Y) (o : Option X) (y : Y) → option_and_then f o ≡ Some y → (x : X) × (o ≡ Some x) × (f x ≡ Some y)
+pub and_then-some : {X Y : Type 0} (f : X → Option Y) (o : Option X) (y : Y) → option_and_then f o ≡ Some y → (x : X) × (o ≡ Some x) × (f x ≡ Some y)
 and_then-some f None y e = absurd (cc)
 and_then-some f (Some x) y e = (x, refl, e)
+
+-- an option holds one value
+pub same-some : {X : Type 0} (o : Option X) (x y : X) → o ≡ Some x → o ≡ Some y → x ≡ y
+same-some o x y a b = let both : Some x ≡ Some y = sym a ∙ b in cc
 
 found_here : {X : Type 0} (test : X → Bool) (number : X → ℕ) (b : Bool) (y x : X) (rest : Option X) (top : ℕ) → test y ≡ b → (rest ≡ Some x → (test x ≡ true) × (number x ≤ top)) → cond b (Some y) rest ≡ Some x → (test x ≡ true) × (number x ≤ max (number y) top)
 found_here test number true y x rest top here there e = let same : y ≡ x = cc in let at : number y ≡ number x = ap number same in (cc, omega arith)
@@ -40,6 +44,9 @@ found_here test number false y x rest top here there e = ((there e).0, omega (ar
 find-greatest : {X : Type 0} (test : X → Bool) (number : X → ℕ) (xs : List X) (x : X) → find test xs ≡ Some x → (test x ≡ true) × (number x ≤ greatest_by number xs)
 find-greatest test number [] x e = let never : None ≡ Some x = e in absurd (cc)
 find-greatest test number (y ∷ ys) x e = found_here test number (test y) y x (find test ys) (greatest_by number ys) refl (find-greatest test number ys x) e
+
+pub find-passes : {X : Type 0} (test : X → Bool) (xs : List X) (x : X) → find test xs ≡ Some x → test x ≡ true
+find-passes {X} test xs x e = (find-greatest test (λ (y : X). 0) xs x e).0
 
 -- a module that is found has the id that was looked for
 pub id-of_found : (M : Plain) (id : ModId) (m : PModule) → module_of M id ≡ Some m → m.id ≡ id
@@ -104,7 +111,7 @@ greatest_by-le : {X : Type 0} (number : X → ℕ) (bound : ℕ) (xs : List X) �
 greatest_by-le number bound [] all = omega arith
 greatest_by-le number bound (x ∷ xs) all = omega (arith, All-head (λ x. number x ≤ bound) x xs all, greatest_by-le number bound xs (All-tail (λ x. number x ≤ bound) x xs all))
 
-some-there : {X : Type 0} (o : Option X) → IsSome o → (x : X) × (o ≡ Some x)
+pub some-there : {X : Type 0} (o : Option X) → IsSome o → (x : X) × (o ≡ Some x)
 some-there None some = absurd (false≢true some)
 some-there (Some x) some = (x, refl)
 

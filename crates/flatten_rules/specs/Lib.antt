@@ -3,7 +3,11 @@ pub mod Unfolding
 pub mod Root
 pub mod Domains
 pub mod Texts
+pub mod Cycle
+pub mod Graph
+pub mod Reach
 pub mod Sound
+pub mod Checks
 pub mod Order
 pub mod Limits
 pub mod Extent

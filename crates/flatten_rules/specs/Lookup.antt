@@ -1,4 +1,4 @@
-use Rattle.std.specs.Prelude.{ℕ, ◌==◌, ◌+◌, ◌-◌, List, [], Option, Some, None, find}
+use Rattle.std.specs.Prelude.{ℕ, ◌==◌, ◌+◌, ◌-◌, List, [], Option, Some, None, find, position}
 use Rattle.emh_base.specs.declared.ids.ModId.{ModId}
 use Rattle.emh_base.specs.declared.ids.NetId.{NetId}
 use Rattle.emh_base.specs.declared.ids.InstId.{InstId}
@@ -13,6 +13,10 @@ use Rattle.emh_base.specs.declared.plain.Plain.{Plain}
 
 abbrev pub module_of : Plain → ModId → Option PModule
 module_of M id = find (λ m. m.id.0 == id.0) M.modules
+
+-- the place in the table of the module of that id
+abbrev pub place_of : Plain → ModId → Option ℕ
+place_of M id = position (λ m. m.id.0 == id.0) M.modules
 
 abbrev pub net_of : PModule → NetId → Option PNet
 net_of m id = find (λ net. net.id.0 == id.0) m.nets

@@ -1,7 +1,6 @@
 -- When a module table is sound: what every call on a table may rest on. This project's own.
 use Rattle.std.specs.Prelude.{◌≡◌, ◌≢◌, ◌<◌, ◌≤◌, false, List, [], ◌∷◌, ◌++◌, map, length, Option, Some, None, IsTrue, IsSome, MatchOption, All, AllPairs, bytes_eq}
 use Rattle.std.specs.List.{IsDistinct}
-use Rattle.emh_base.specs.declared.ids.InstId.{InstId}
 use Rattle.emh_base.specs.declared.plain.Range.{Range}
 use Rattle.emh_base.specs.declared.plain.Src.{Src}
 use Rattle.emh_base.specs.declared.plain.Src.TheVariants.{Tie0, Tie1, Bit}
@@ -13,16 +12,12 @@ use Rattle.emh_base.specs.declared.plain.PInst.{PInst}
 use Rattle.emh_base.specs.declared.plain.PModule.{PModule}
 use Rattle.emh_base.specs.declared.plain.Plain.{Plain}
 use Rattle.flatten_rules.specs.Lookup.{module_of, net_of, port_of, width, width_of}
-use Rattle.flatten_rules.specs.Unfolding.{module_up}
+use Rattle.flatten_rules.specs.Cycle.{OnCycle}
 
 -- no index is above 65,535, and no net has more than 4,096 bits
 abbrev pub IsAllowed : Option Range → Type 0
 IsAllowed None = Unit {0}
 IsAllowed (Some range) = (range.left ≤ 65535) × (range.right ≤ 65535) × (width (Some range) ≤ 4096)
-
--- what a look-up of a module's nets rests on: their ids rise, and their ranges are allowed
-abbrev pub HasNets : PModule → Type 0
-HasNets m = AllPairs (λ (a b : PNet). a.id.0 < b.id.0) m.nets × All (λ (net : PNet). IsAllowed net.range) m.nets
 
 -- a source is a tie, or a bit that a net of the module has
 abbrev pub IsSource : PModule → Src → Type 0
@@ -66,10 +61,10 @@ pub record IsSoundModule (M : Plain) (m : PModule) : Type 0 where
   pub masters : All (HasMaster M m) m.insts
   pub cell : IsTrue m.leaf → IsCell m
 
--- Names are one of a kind and ids rise below their counter, modules are sound, no walk of instances returns to its module.
+-- Names are one of a kind and ids rise below their counter, modules are sound, none is on a cycle.
 pub record IsSound (M : Plain) : Type 0 where
   pub names : IsDistinct bytes_eq (map (λ (m : PModule). m.name) M.modules)
   pub rise : AllPairs (λ (a b : PModule). a.id.0 < b.id.0) M.modules
   pub below : All (λ (m : PModule). m.id.0 < M.next_module) M.modules
   pub modules : All (IsSoundModule M) M.modules
-  pub no_cycle : (m : PModule) (i : InstId) (up : List InstId) → module_up M m.id (i ∷ up) ≢ Some m
+  pub no_cycle : (m : PModule) → OnCycle M m → ⊥

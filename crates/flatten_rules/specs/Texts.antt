@@ -13,6 +13,7 @@ use Rattle.emh_base.specs.Text.{path_text, bit_text, pin_text}
 use Rattle.flatten_rules.specs.Lookup.{net_of, width_of}
 use Rattle.flatten_rules.specs.Unfolding.{module_up, inst_up}
 use Rattle.flatten_rules.specs.Domains.{NetBit}
+use Rattle.flatten_rules.specs.Sound.{IsSound}
 
 abbrev pub inst_name : Option PInst → List ℕ
 inst_name None = []
@@ -66,3 +67,7 @@ pub record TextsDiffer (M : Plain) (top : ModId) : Type 0 where
   pub no_tie_0 : (a : Named) → IsThere M top a → text_of M top a ≢ codes "=0"
   pub no_tie_1 : (a : Named) → IsThere M top a → text_of M top a ≢ codes "=1"
   pub no_open : (a : Named) → IsThere M top a → text_of M top a ≢ codes "=open"
+
+-- the law holds in each sound table
+abbrev pub EachTextOnce : Type 0
+EachTextOnce = (M : Plain) (top : ModId) → IsSound M → All HasNames M.modules → TextsDiffer M top

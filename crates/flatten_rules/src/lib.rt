@@ -2,18 +2,27 @@
 //! its leaf pins, its limits.
 #![tactic(auto)]
 
+mod cell;
+mod cycle;
 mod extent;
 mod laws;
 mod limits;
 mod lookup;
+mod master;
+mod named;
 mod numbered;
+mod rank;
+mod reach;
 mod root;
+mod soundness;
 
-pub use laws::two_level_unfolds;
+pub use cycle::first_on_cycle;
+pub use laws::{each_text_once, two_level_unfolds};
 pub use limits::is_within;
 pub use lookup::{find, module_of, net_of, place_of_module, port_of, width};
 pub use numbered::{Numbered, place_of};
 pub use root::Root;
+pub use soundness::is_sound;
 
 #[cfg(test)]
 mod tests;

@@ -2,7 +2,7 @@ ghost use Rattle.std.specs.Prelude.{◌≡◌, ◌==◌, ◌<◌, ◌≤◌, Non
 ghost use Rattle.std.specs.Option.{option_copied};
 ghost use Rattle.emh_base.specs.declared.plain.PNet.{PNet};
 ghost use Rattle.emh_base.specs.declared.plain.PModule.{PModule};
-ghost use Rattle.flatten_rules.specs.Lookup.{module_of, net_of, port_of, width};
+ghost use Rattle.flatten_rules.specs.Lookup.{module_of, place_of, net_of, port_of, width};
 ghost use Rattle.flatten_rules.specs.Sound.{IsAllowed};
 
 use crate::numbered::{Numbered, place_of};
@@ -49,6 +49,7 @@ pub fn port_of(holder: &PModule, net: NetId) -> Option<&PPort>
 /// The place in the table of the module of that id.
 pub fn place_of_module(plain: &Plain, id: ModId) -> Option<usize>
     requires { AllPairs (λ (a b : PModule). a.id.0 < b.id.0) plain.now.modules }
+    ensures place { result ≡ place_of plain.now id }
     ensures found { IfSome result (λ place. IsSomeAnd (slice_get plain.now.modules place) (λ m. module_of plain.now id ≡ Some m)) }
     ensures none { IfNone result (module_of plain.now id ≡ None) }
 {

@@ -1,4 +1,4 @@
-ghost use Rattle.std.specs.Prelude.{◌≡◌, ℕ, ◌==◌, ◌<◌, ◌≤◌, true, false, nat_lt, length, AllPairs, position};
+ghost use Rattle.std.specs.Prelude.{◌≡◌, ℕ, ◌==◌, ◌<◌, ◌≤◌, ◌↔◌, true, false, nat_lt, length, All, AllPairs, position, IsTrue};
 ghost use Rattle.std.specs.List.Sorted.{IsPartitionPoint};
 
 use emh_base::{PInst, PModule, PNet};
@@ -56,4 +56,19 @@ fn first_from<T: Numbered>(items: &[T], number: u32) -> usize
         (λ item. nat_lt (T.number_of item) number ≡ false) items.now result }
 {
     items.partition_point(|item| item.number() < number)
+}
+
+/// Whether the numbers of the items rise, and end below a counter.
+pub(crate) fn rises<T: Numbered>(items: &[T], counter: u32) -> bool
+    ensures { IsTrue result ↔ (AllPairs (λ a b. T.number_of a < T.number_of b) items.now
+        × All (λ item. T.number_of item < counter) items.now) }
+{
+    let mut next: u64 = 0;
+    for item in items {
+        if u64::from(item.number()) < next {
+            return false;
+        }
+        next = u64::from(item.number()) + 1;
+    }
+    next <= u64::from(counter)
 }

@@ -1,20 +1,47 @@
+ghost use Rattle.std.specs.Prelude.{◌<◌, IsTrue, All};
+ghost use Rattle.emh_base.specs.declared.plain.PInst.{PInst};
+ghost use Rattle.flatten_rules.specs.Order.{MastersFirst};
+
+mod cycle;
 mod sound;
 mod tables;
 
-use crate::is_within;
-use emh_base::{ModId, NoMemory, Plain};
-use sound::is_sound;
+use crate::{is_sound, is_within};
+use emh_base::{ModId, NoMemory, PModule, Plain};
 use std::alloc::Global;
 use std::test::Fail;
 use tables::{add_module, add_nets, chain, empty_table, levels};
 
 /// Whether a table is within the limits at a top; none where it isn't sound.
 fn within(alloc: Global, plain: &Plain, top: u32) -> Result<Option<bool>, NoMemory> {
-    if is_sound(alloc, plain)? {
-        Ok(Some(is_within(alloc, plain, ModId(top))?))
-    } else {
-        Ok(None)
+    if !is_sound(alloc, plain)? {
+        return Ok(None);
     }
+    if !have_masters_first(plain) {
+        return Ok(None);
+    }
+    Ok(Some(is_within(alloc, plain, ModId(top))?))
+}
+
+/// Whether masters stand before the modules of their instances.
+fn have_masters_first(plain: &Plain) -> bool
+    ensures { IsTrue result → MastersFirst plain.now }
+{
+    plain
+        .modules
+        .as_slice()
+        .iter()
+        .all(|holder| has_masters_first(holder))
+}
+
+fn has_masters_first(holder: &PModule) -> bool
+    ensures { IsTrue result → All (λ (inst : PInst). inst.master.0 < holder.now.id.0) holder.now.insts }
+{
+    holder
+        .insts
+        .as_slice()
+        .iter()
+        .all(|inst| inst.master.0 < holder.id.0)
 }
 
 // Level k holds two instances of the level below it, so it unfolds to 2 ^ (k + 1) - 1 occurrences.

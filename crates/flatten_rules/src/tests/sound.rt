@@ -1,359 +1,455 @@
-ghost use Rattle.std.specs.Prelude.{◌≡◌, ◌≢◌, ℕ, ◌<◌, ◌++◌, List, map, length, IsTrue, IsSome, IfOk, All, AllPairs, bytes_eq};
-ghost use Rattle.std.specs.List.{IsDistinct};
-ghost use Rattle.emh_base.specs.declared.plain.PModule.{PModule};
-ghost use Rattle.emh_base.specs.declared.plain.PNet.{PNet};
-ghost use Rattle.emh_base.specs.declared.plain.PPort.{PPort};
-ghost use Rattle.emh_base.specs.declared.plain.PInst.{PInst};
-ghost use Rattle.flatten_rules.specs.Lookup.{net_of, port_of, width_of};
-ghost use Rattle.flatten_rules.specs.Sound.{IsSound, IsSoundModule, HasMaster, FitPorts, FitsPort, IsSource, IsCell, IsAllowed, HasNets};
-ghost use Rattle.flatten_rules.specs.Order.{MastersFirst};
+ghost use Rattle.std.specs.Prelude.{◌<◌, ◌≤◌};
 
-use crate::lookup::{module_of, net_of, port_of, width};
-use crate::numbered::Numbered;
+use super::tables::name_of;
+use crate::is_sound;
 use emh_base::{
-    Conn, Name, NetId, NoMemory, PInst, PModule, PNet, PPort, Plain, Pool, Range, Src, TryCopy,
+    Conn, Dir, InstId, List, ModId, NetId, NoMemory, PInst, PModule, PNet, PPort, Plain, Range, Src,
 };
 use std::alloc::Global;
+use std::test::Fail;
 
-/// Whether a table is sound and its masters come first.
-pub(crate) fn is_sound(alloc: Global, plain: &Plain) -> Result<bool, NoMemory>
-    ensures { IfOk result (λ sound. IsTrue sound → IsSound plain.now × MastersFirst plain.now) }
-{
-    if !have_own_names(alloc, plain)? {
-        return Ok(false);
+/// A table of a leaf cell with two nets and a module with three nets, all of them ports, and two instances of the cell.
+/// Names are numbers.
+#[derive(Clone, Copy)]
+struct Shape {
+    ids: [u32; 2],
+    /// Whether the cell stands after the module.
+    cell_last: bool,
+    names: [u32; 2],
+    next_module: u32,
+    leaf: bool,
+    locked: bool,
+    cell_locked: bool,
+    cell_ports: u32,
+    net_ids: [u32; 3],
+    net_names: [u32; 3],
+    range: (u32, u32),
+    next_net: u32,
+    ports: [u32; 3],
+    port_count: usize,
+    inst_ids: [u32; 2],
+    inst_names: [u32; 2],
+    masters: [u32; 2],
+    next_inst: u32,
+    /// How many connections each instance has, and how many sources each connection.
+    conns: u32,
+    sources: u32,
+    source: Src,
+}
+
+const SOUND: Shape = Shape {
+    ids: [0, 2],
+    cell_last: false,
+    names: [8, 9],
+    next_module: 3,
+    leaf: false,
+    locked: true,
+    cell_locked: false,
+    cell_ports: 2,
+    net_ids: [0, 1, 4],
+    net_names: [0, 1, 2],
+    range: (5, 2),
+    next_net: 5,
+    ports: [1, 0, 4],
+    port_count: 3,
+    inst_ids: [1, 3],
+    inst_names: [3, 4],
+    masters: [0, 0],
+    next_inst: 4,
+    conns: 2,
+    sources: 1,
+    source: Src::Bit(NetId(4), 3),
+};
+
+fn table_of(alloc: Global, shape: Shape) -> Result<Plain, NoMemory> {
+    let mut modules = List::new(alloc);
+    if shape.cell_last {
+        modules.push(module_of(alloc, shape)?)?;
+        modules.push(cell_of(alloc, shape)?)?;
+    } else {
+        modules.push(cell_of(alloc, shape)?)?;
+        modules.push(module_of(alloc, shape)?)?;
     }
-    if !rises(plain.modules.as_slice(), plain.next_module) {
-        return Ok(false);
+    Ok(Plain {
+        modules,
+        next_module: shape.next_module,
+    })
+}
+
+fn cell_of(alloc: Global, shape: Shape) -> Result<PModule, NoMemory> {
+    let mut nets = List::new(alloc);
+    for id in 0..2 {
+        nets.push(net_of(alloc, id, id, None)?)?;
     }
-    if !have_nets(plain) || !have_masters_first(plain) {
-        return Ok(false);
+    let mut ports = List::new(alloc);
+    for net in 0..shape.cell_ports {
+        ports.push(port_of(net))?;
     }
-    let sound = are_sound(alloc, plain)?;
-    Ok(sound)
+    Ok(PModule {
+        id: ModId(shape.ids[0]),
+        name: name_of(alloc, shape.names[0])?,
+        leaf: true,
+        locked: shape.cell_locked,
+        nets,
+        ports,
+        insts: List::new(alloc),
+        next_net: 2,
+        next_inst: 0,
+    })
 }
 
-/// Whether no two modules have one name.
-fn have_own_names(alloc: Global, plain: &Plain) -> Result<bool, NoMemory>
-    ensures { IfOk result (λ own. IsTrue own → IsDistinct bytes_eq (map (λ (m : PModule). m.name) plain.now.modules)) }
-{
-    let mut names = Pool::new(alloc);
-    if !put_new(&mut names, plain.modules.as_slice())? {
-        return Ok(false);
+fn module_of(alloc: Global, shape: Shape) -> Result<PModule, NoMemory> {
+    let (left, right) = shape.range;
+    let ranges = [None, None, Some(Range { left, right })];
+    let mut nets = List::new(alloc);
+    for at in 0..3 {
+        nets.push(net_of(alloc, shape.net_ids[at], shape.net_names[at], ranges[at])?)?;
     }
-    let _distinct = names.len();
-    Ok(true)
-}
-
-/// Whether the nets of each module have rising ids and allowed ranges.
-fn have_nets(plain: &Plain) -> bool
-    ensures { IsTrue result → All HasNets plain.now.modules }
-{
-    plain
-        .modules
-        .as_slice()
-        .iter()
-        .all(|holder| has_nets(holder))
-}
-
-fn has_nets(holder: &PModule) -> bool
-    ensures nets { IsTrue result → HasNets holder.now }
-    ensures below { IsTrue result → All (λ (net : PNet). net.id.0 < holder.now.next_net) holder.now.nets }
-{
-    if !rises(holder.nets.as_slice(), holder.next_net) {
-        return false;
+    let mut ports = List::new(alloc);
+    for net in shape.ports.iter().take(shape.port_count) {
+        ports.push(port_of(*net))?;
     }
-    are_allowed(holder.nets.as_slice())
-}
-
-/// Whether masters stand before the modules of their instances.
-fn have_masters_first(plain: &Plain) -> bool
-    ensures { IsTrue result → MastersFirst plain.now }
-{
-    plain
-        .modules
-        .as_slice()
-        .iter()
-        .all(|holder| has_masters_first(holder))
-}
-
-fn has_masters_first(holder: &PModule) -> bool
-    ensures { IsTrue result → All (λ (inst : PInst). inst.master.0 < holder.now.id.0) holder.now.insts }
-{
-    holder
-        .insts
-        .as_slice()
-        .iter()
-        .all(|inst| inst.master.0 < holder.id.0)
-}
-
-/// Whether each module of a table with rising ids and sound nets is sound.
-fn are_sound(alloc: Global, plain: &Plain) -> Result<bool, NoMemory>
-    requires rise { AllPairs (λ (a b : PModule). a.id.0 < b.id.0) plain.now.modules }
-    requires nets { All HasNets plain.now.modules }
-    ensures { IfOk result (λ sound. IsTrue sound → All (IsSoundModule plain.now) plain.now.modules) }
-{
-    for holder in plain.modules.as_slice() {
-        if !is_sound_module(alloc, plain, holder)? {
-            return Ok(false);
-        }
+    let mut insts = List::new(alloc);
+    for at in 0..2 {
+        insts.push(inst_of(alloc, shape, at)?)?;
     }
-    Ok(true)
+    Ok(PModule {
+        id: ModId(shape.ids[1]),
+        name: name_of(alloc, shape.names[1])?,
+        leaf: shape.leaf,
+        locked: shape.locked,
+        nets,
+        ports,
+        insts,
+        next_net: shape.next_net,
+        next_inst: shape.next_inst,
+    })
 }
 
-fn is_sound_module(alloc: Global, plain: &Plain, holder: &PModule) -> Result<bool, NoMemory>
-    requires rise { AllPairs (λ (a b : PModule). a.id.0 < b.id.0) plain.now.modules }
-    requires nets { All HasNets plain.now.modules }
-    ensures { IfOk result (λ sound. IsTrue sound → IsSoundModule plain.now holder.now) }
-{
-    if !has_own_names(alloc, holder)? {
-        return Ok(false);
-    }
-    if !has_nets(holder) {
-        return Ok(false);
-    }
-    if !rises(holder.insts.as_slice(), holder.next_inst) {
-        return Ok(false);
-    }
-    if !ports_are_there(holder) || !ports_differ(holder.ports.as_slice()) {
-        return Ok(false);
-    }
-    if !have_masters(plain, holder) {
-        return Ok(false);
-    }
-    Ok(is_cell_if_leaf(holder))
+fn net_of(alloc: Global, id: u32, name: u32, range: Option<Range>) -> Result<PNet, NoMemory> {
+    Ok(PNet {
+        id: NetId(id),
+        name: name_of(alloc, name)?,
+        range,
+    })
 }
 
-fn ports_are_there(holder: &PModule) -> bool
-    requires { HasNets holder.now }
-    ensures { IsTrue result → All (λ (port : PPort). IsSome (net_of holder.now port.net)) holder.now.ports }
-{
-    holder
-        .ports
-        .as_slice()
-        .iter()
-        .all(|port| net_of(holder, port.net).is_some())
-}
-
-fn ports_differ(ports: &[PPort]) -> bool
-    ensures { IsTrue result → AllPairs (λ (a b : PPort). a.net ≢ b.net) ports.now }
-{
-    for place in 0..ports.len() {
-        if !differ(ports[place].net, &ports[..place]) {
-            return false;
-        }
-    }
-    true
-}
-
-fn differ(net: NetId, ports: &[PPort]) -> bool
-    ensures { IsTrue result → All (λ (port : PPort). port.net ≢ net) ports.now }
-{
-    ports.iter().all(|port| port.net != net)
-}
-
-fn is_cell_if_leaf(holder: &PModule) -> bool
-    ensures { IsTrue result → IsTrue holder.now.leaf → IsCell holder.now }
-{
-    if holder.leaf { is_cell(holder) } else { true }
-}
-
-fn is_cell(holder: &PModule) -> bool
-    ensures { IsTrue result → IsCell holder.now }
-{
-    if !holder.insts.is_empty() || holder.locked {
-        return false;
-    }
-    nets_have_ports(holder)
-}
-
-fn nets_have_ports(holder: &PModule) -> bool
-    ensures { IsTrue result → All (λ (net : PNet). IsSome (port_of holder.now net.id)) holder.now.nets }
-{
-    holder
-        .nets
-        .as_slice()
-        .iter()
-        .all(|net| port_of(holder, net.id).is_some())
-}
-
-/// Whether no two nets or instances of a module have one name.
-fn has_own_names(alloc: Global, holder: &PModule) -> Result<bool, NoMemory>
-    ensures { IfOk result (λ own. IsTrue own → IsDistinct bytes_eq
-        (map (λ (net : PNet). net.name) holder.now.nets ++ map (λ (inst : PInst). inst.name) holder.now.insts)) }
-{
-    let mut names = Pool::new(alloc);
-    if !put_new(&mut names, holder.nets.as_slice())? {
-        return Ok(false);
-    }
-    if !put_new(&mut names, holder.insts.as_slice())? {
-        return Ok(false);
-    }
-    let _distinct = names.len();
-    Ok(true)
-}
-
-fn are_allowed(nets: &[PNet]) -> bool
-    ensures { IsTrue result → All (λ (net : PNet). IsAllowed net.range) nets.now }
-{
-    nets.iter().all(|net| is_allowed(net.range))
-}
-
-fn is_allowed(range: Option<Range>) -> bool
-    ensures { IsTrue result → IsAllowed range }
-{
-    match range {
-        None => true,
-        Some(range) => range.left <= 65535
-            && range.right <= 65535
-            && range.left.abs_diff(range.right) < 4096,
+fn port_of(net: u32) -> PPort {
+    PPort {
+        net: NetId(net),
+        dir: Dir::Input,
     }
 }
 
-fn have_masters(plain: &Plain, holder: &PModule) -> bool
-    requires rise { AllPairs (λ (a b : PModule). a.id.0 < b.id.0) plain.now.modules }
-    requires nets { All HasNets plain.now.modules }
-    requires own { HasNets holder.now }
-    ensures { IsTrue result → All (HasMaster plain.now holder.now) holder.now.insts }
+fn inst_of(alloc: Global, shape: Shape, at: usize) -> Result<PInst, NoMemory>
+    requires { at < 2 }
 {
-    holder
-        .insts
-        .as_slice()
-        .iter()
-        .all(|inst| has_master(plain, holder, inst))
-}
-
-fn has_master(plain: &Plain, holder: &PModule, inst: &PInst) -> bool
-    requires rise { AllPairs (λ (a b : PModule). a.id.0 < b.id.0) plain.now.modules }
-    requires nets { All HasNets plain.now.modules }
-    requires own { HasNets holder.now }
-    ensures { IsTrue result → HasMaster plain.now holder.now inst.now }
-{
-    match module_of(plain, inst.master) {
-        Some(master) => fit_ports(
-            holder,
-            master,
-            master.ports.as_slice(),
-            inst.conns.as_slice(),
-        ),
-        None => false,
+    let mut conns = List::new(alloc);
+    for _ in 0..shape.conns {
+        conns.push(conn_of(alloc, shape.source, shape.sources)?)?;
     }
+    Ok(PInst {
+        id: InstId(shape.inst_ids[at]),
+        name: name_of(alloc, shape.inst_names[at])?,
+        master: ModId(shape.masters[at]),
+        conns,
+    })
 }
 
-fn fit_ports(holder: &PModule, master: &PModule, ports: &[PPort], conns: &[Conn]) -> bool
-    requires own { HasNets holder.now }
-    requires master { HasNets master.now }
-    ensures { IsTrue result → FitPorts holder.now master.now ports.now conns.now }
-{
-    match (ports, conns) {
-        ([], []) => true,
-        ([port, ports @ ..], [conn, conns @ ..]) => {
-            fits_port(holder, master, port, conn) && fit_ports(holder, master, ports, conns)
-        }
-        _ => false,
+/// A connection of as many sources, each this one; open where there are none.
+fn conn_of(alloc: Global, source: Src, sources: u32) -> Result<Conn, NoMemory> {
+    if sources == 0 {
+        return Ok(Conn::Open);
     }
-}
-
-fn fits_port(holder: &PModule, master: &PModule, port: &PPort, conn: &Conn) -> bool
-    requires own { HasNets holder.now }
-    requires master { HasNets master.now }
-    ensures { IsTrue result → FitsPort holder.now master.now port.now conn.now }
-{
-    match conn {
-        Conn::Open => true,
-        Conn::Bits(bits) => {
-            if bits.len() != usize::from(net_width(master, port.net)) {
-                return false;
-            }
-            are_sources(holder, bits.as_slice())
-        }
+    let mut bits = List::new(alloc);
+    for _ in 0..sources {
+        bits.push(source)?;
     }
+    Ok(Conn::Bits(bits))
 }
 
-fn are_sources(holder: &PModule, sources: &[Src]) -> bool
-    requires { HasNets holder.now }
-    ensures { IsTrue result → All (IsSource holder.now) sources.now }
-{
-    sources.iter().all(|source| is_source(holder, source))
-}
+/// Each has one fault.
+static FAULTS: [(&str, Shape); 30] = [
+    (
+        "two modules of one name",
+        Shape {
+            names: [9, 9],
+            ..SOUND
+        },
+    ),
+    (
+        "module ids that fall",
+        Shape {
+            ids: [2, 0],
+            masters: [2, 2],
+            ..SOUND
+        },
+    ),
+    (
+        "a module id twice",
+        Shape {
+            ids: [2, 2],
+            masters: [2, 2],
+            ..SOUND
+        },
+    ),
+    (
+        "a module id at the counter",
+        Shape {
+            next_module: 2,
+            ..SOUND
+        },
+    ),
+    (
+        "two nets of one name",
+        Shape {
+            net_names: [0, 1, 0],
+            ..SOUND
+        },
+    ),
+    (
+        "two instances of one name",
+        Shape {
+            inst_names: [3, 3],
+            ..SOUND
+        },
+    ),
+    (
+        "a net named as an instance",
+        Shape {
+            net_names: [0, 1, 4],
+            ..SOUND
+        },
+    ),
+    (
+        "net ids that fall",
+        Shape {
+            net_ids: [1, 0, 4],
+            ..SOUND
+        },
+    ),
+    (
+        "a net id twice",
+        Shape {
+            net_ids: [1, 1, 4],
+            ports: [1, 4, 4],
+            port_count: 2,
+            ..SOUND
+        },
+    ),
+    (
+        "a net id at the counter",
+        Shape {
+            next_net: 4,
+            ..SOUND
+        },
+    ),
+    (
+        "no net id below the counter",
+        Shape {
+            next_net: 0,
+            ..SOUND
+        },
+    ),
+    (
+        "an index above 65,535",
+        Shape {
+            range: (65536, 65533),
+            ..SOUND
+        },
+    ),
+    (
+        "an index above 65,535, to the right",
+        Shape {
+            range: (65533, 65536),
+            ..SOUND
+        },
+    ),
+    (
+        "a net of 4,097 bits",
+        Shape {
+            range: (0, 4096),
+            ..SOUND
+        },
+    ),
+    (
+        "a port without a net",
+        Shape {
+            ports: [0, 1, 3],
+            ..SOUND
+        },
+    ),
+    (
+        "two ports of one net",
+        Shape {
+            ports: [0, 4, 0],
+            ..SOUND
+        },
+    ),
+    (
+        "instance ids that fall",
+        Shape {
+            inst_ids: [3, 1],
+            ..SOUND
+        },
+    ),
+    (
+        "an instance id twice",
+        Shape {
+            inst_ids: [3, 3],
+            ..SOUND
+        },
+    ),
+    (
+        "an instance id at the counter",
+        Shape {
+            next_inst: 3,
+            ..SOUND
+        },
+    ),
+    (
+        "a master that isn't there",
+        Shape {
+            masters: [0, 1],
+            ..SOUND
+        },
+    ),
+    ("a connection too few", Shape { conns: 1, ..SOUND }),
+    ("a connection too many", Shape { conns: 3, ..SOUND }),
+    (
+        "a source too many",
+        Shape {
+            sources: 2,
+            ..SOUND
+        },
+    ),
+    (
+        "a net that isn't there",
+        Shape {
+            source: Src::Bit(NetId(3), 0),
+            ..SOUND
+        },
+    ),
+    (
+        "a bit that the net hasn't",
+        Shape {
+            source: Src::Bit(NetId(4), 4),
+            ..SOUND
+        },
+    ),
+    (
+        "a bit that a net without range hasn't",
+        Shape {
+            source: Src::Bit(NetId(0), 1),
+            ..SOUND
+        },
+    ),
+    (
+        "a leaf with instances",
+        Shape {
+            leaf: true,
+            locked: false,
+            ..SOUND
+        },
+    ),
+    (
+        "a leaf with an inner net",
+        Shape {
+            cell_ports: 1,
+            conns: 1,
+            ..SOUND
+        },
+    ),
+    (
+        "a locked leaf",
+        Shape {
+            cell_locked: true,
+            ..SOUND
+        },
+    ),
+    (
+        "an instance of its own module",
+        Shape {
+            masters: [2, 2],
+            conns: 3,
+            sources: 0,
+            ..SOUND
+        },
+    ),
+];
 
-fn is_source(holder: &PModule, source: &Src) -> bool
-    requires { HasNets holder.now }
-    ensures { IsTrue result → IsSource holder.now source.now }
-{
-    match source {
-        Src::Tie0 => true,
-        Src::Tie1 => true,
-        Src::Bit(net, offset) => *offset < net_width(holder, *net),
+#[test]
+fn each_fault_makes_a_table_unsound(rt: HostRuntime) -> Result<(), Fail> {
+    for (what, shape) in &FAULTS {
+        let plain = table_of(rt.alloc(), *shape)?;
+        assert!(rt; !is_sound(rt.alloc(), &plain)?, "{what}");
     }
+    Ok(())
 }
 
-/// The bits of a net, none where it isn't there.
-fn net_width(holder: &PModule, id: NetId) -> u16
-    requires { HasNets holder.now }
-    ensures { result ≡ width_of (net_of holder.now id) }
-{
-    match net_of(holder, id) {
-        Some(net) => width(net.range),
-        None => 0,
+/// None has a fault.
+static NO_FAULTS: [(&str, Shape); 8] = [
+    ("as it stands", SOUND),
+    (
+        "a master that comes later",
+        Shape {
+            cell_last: true,
+            ids: [2, 0],
+            masters: [2, 2],
+            ..SOUND
+        },
+    ),
+    (
+        "a range of 4,096 bits that rises",
+        Shape {
+            range: (1, 4096),
+            ..SOUND
+        },
+    ),
+    (
+        "a range of 4,096 bits that falls",
+        Shape {
+            range: (65535, 61440),
+            ..SOUND
+        },
+    ),
+    (
+        "ties",
+        Shape {
+            source: Src::Tie1,
+            ..SOUND
+        },
+    ),
+    (
+        "open connections",
+        Shape {
+            sources: 0,
+            ..SOUND
+        },
+    ),
+    (
+        "an instance named as its module",
+        Shape {
+            inst_names: [3, 9],
+            ..SOUND
+        },
+    ),
+    (
+        "counters at the limit",
+        Shape {
+            next_module: u32::MAX,
+            next_net: u32::MAX,
+            next_inst: u32::MAX,
+            ..SOUND
+        },
+    ),
+];
+
+#[test]
+fn what_is_no_fault_leaves_a_table_sound(rt: HostRuntime) -> Result<(), Fail> {
+    for (what, shape) in &NO_FAULTS {
+        let plain = table_of(rt.alloc(), *shape)?;
+        assert!(rt; is_sound(rt.alloc(), &plain)?, "{what}");
     }
-}
-
-/// Whether the numbers of the items rise, and end below a counter.
-fn rises<T: Numbered>(items: &[T], counter: u32) -> bool
-    ensures { IsTrue result → AllPairs (λ a b. T.number_of a < T.number_of b) items.now
-        × All (λ item. T.number_of item < counter) items.now }
-{
-    let mut next: u64 = 0;
-    for item in items {
-        if u64::from(item.number()) < next {
-            return false;
-        }
-        next = u64::from(item.number()) + 1;
-    }
-    next <= u64::from(counter)
-}
-
-/// What has a name.
-trait Named {
-    ghost name_of: { Self → List ℕ };
-
-    fn name(&self) -> &Name
-        ensures { result.now ≡ name_of self.now };
-}
-
-impl Named for PModule {
-    ghost name_of = { λ m. m.name };
-
-    fn name(&self) -> &Name {
-        &self.name
-    }
-}
-
-impl Named for PNet {
-    ghost name_of = { λ net. net.name };
-
-    fn name(&self) -> &Name {
-        &self.name
-    }
-}
-
-impl Named for PInst {
-    ghost name_of = { λ inst. inst.name };
-
-    fn name(&self) -> &Name {
-        &self.name
-    }
-}
-
-/// Puts the names of the items into a pool, as far as they are new. Whether all are.
-fn put_new<T: Named>(pool: &mut Pool, items: &[T]) -> Result<bool, NoMemory>
-    ensures { IfOk result (λ fresh. IsTrue fresh → pool.new ≡ pool.old ++ map (λ item. T.name_of item) items.now) }
-{
-    for item in items {
-        let count = pool.len();
-        if pool.number(item.name().copy()?)? != count {
-            return Ok(false);
-        }
-    }
-    Ok(true)
+    Ok(())
 }

@@ -151,11 +151,16 @@ fn add(
     })
 }
 
-/// A name for a number.
-fn name_of(alloc: Global, number: u32) -> Result<Name, NoMemory> {
-    let text = number.to_string(alloc)?;
-    match Name::new(alloc, text.as_bytes()) {
+/// The name of these bytes.
+pub(crate) fn named(alloc: Global, name: &[u8]) -> Result<Name, NoMemory> {
+    match Name::new(alloc, name) {
         Ok(name) => Ok(name),
         Err(_) => Err(NoMemory),
     }
+}
+
+/// A name for a number.
+pub(crate) fn name_of(alloc: Global, number: u32) -> Result<Name, NoMemory> {
+    let text = number.to_string(alloc)?;
+    named(alloc, text.as_bytes())
 }

@@ -1,9 +1,0 @@
-use Rattle.std.proofs.Common.{◌==◌, sym}
-use Rattle.emh_base.specs.declared.plain.PNet.{PNet}
-use Rattle.flatten_rules.specs.Sound.{IsAllowed}
-use Rattle.flatten_rules.proofs.Sound.{All-find}
-use Rattle.flatten_rules.proofs.tests.sound.net_width.Goals as goal
-
-pub width-requires : goal.width-requires
-width-requires c =
-    All-find (λ (net : PNet). IsAllowed net.range) (λ (net : PNet). net.id.0 == c.args.id.0) c.args.holder.now.nets c.in-Some.net.now c.requires.1 (sym c.in-Some.ensures)

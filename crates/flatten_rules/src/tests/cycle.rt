@@ -1,0 +1,94 @@
+ghost use Rattle.std.specs.Prelude.{◌<◌, ◌↔◌, IsTrue, All, AllPairs};
+ghost use Rattle.emh_base.specs.declared.plain.PInst.{PInst};
+ghost use Rattle.emh_base.specs.declared.plain.PModule.{PModule};
+
+use super::tables::{add_module, chain, empty_table};
+use crate::first_on_cycle;
+use crate::numbered::rises;
+use emh_base::{NoMemory, PModule, Plain};
+use std::alloc::Global;
+use std::test::Fail;
+
+/// The place of the first module on a cycle; none where ids don't rise.
+fn first(alloc: Global, plain: &Plain, from: usize) -> Result<Option<Option<usize>>, NoMemory> {
+    if !rises(plain.modules.as_slice(), plain.next_module) {
+        return Ok(None);
+    }
+    if !insts_rise(plain.modules.as_slice()) {
+        return Ok(None);
+    }
+    Ok(Some(first_on_cycle(alloc, plain, from)?))
+}
+
+fn insts_rise(modules: &[PModule]) -> bool
+    ensures { IsTrue result → All (λ (m : PModule). AllPairs (λ (a b : PInst). a.id.0 < b.id.0) m.insts) modules.now }
+{
+    modules.iter().all(|holder| inst_ids_rise(holder))
+}
+
+fn inst_ids_rise(holder: &PModule) -> bool
+    ensures { IsTrue result → AllPairs (λ (a b : PInst). a.id.0 < b.id.0) holder.now.insts }
+{
+    rises(holder.insts.as_slice(), holder.next_inst)
+}
+
+/// What is told of a table whose modules have instances of these masters.
+fn first_of(
+    alloc: Global,
+    modules: &[&[u32]],
+    from: usize,
+) -> Result<Option<Option<usize>>, NoMemory> {
+    let mut plain = empty_table(alloc);
+    let mut id: u32 = 0;
+    for masters in modules {
+        add_module(alloc, &mut plain, id, masters)?;
+        id = id.saturating_add(1);
+    }
+    first(alloc, &plain, from)
+}
+
+#[test]
+fn the_first_module_on_a_cycle_is_found(rt: HostRuntime) -> Result<(), Fail> {
+    let cases: [(&str, &[&[u32]], usize, Option<usize>); 12] = [
+        ("no modules", &[], 0, None),
+        ("masters that come later", &[&[1, 2], &[2], &[]], 0, None),
+        ("a master that isn't there", &[&[7], &[]], 0, None),
+        ("a cycle of one", &[&[], &[0, 1]], 0, Some(1)),
+        ("a cycle of two", &[&[1], &[0]], 0, Some(0)),
+        ("from its second module", &[&[1], &[0]], 1, Some(1)),
+        ("past it", &[&[1], &[0], &[]], 2, None),
+        ("past the end", &[&[0]], 5, None),
+        ("a cycle of three", &[&[], &[3], &[1], &[0, 2]], 0, Some(1)),
+        (
+            "a module that leads to one",
+            &[&[1], &[2], &[1]],
+            0,
+            Some(1),
+        ),
+        ("a module between two", &[&[1, 0], &[2], &[2]], 1, Some(2)),
+        (
+            "one met twice on the way",
+            &[&[1, 2], &[3], &[3], &[]],
+            0,
+            None,
+        ),
+    ];
+    for (what, modules, from, place) in cases {
+        assert_eq!(rt; first_of(rt.alloc(), modules, from)?, Some(place), "{what}");
+    }
+    Ok(())
+}
+
+// Each module leads to the cycle at the end, and none before it is on one: to follow the edges of each would take long.
+#[test]
+fn a_long_way_to_a_cycle_takes_no_time(rt: HostRuntime) -> Result<(), Fail> {
+    let alloc = rt.alloc();
+    let mut plain = empty_table(alloc);
+    plain.next_module = 30_001;
+    for id in 0..30_000 {
+        add_module(alloc, &mut plain, id, &[id + 1])?;
+    }
+    add_module(alloc, &mut plain, 30_000, &[29_999])?;
+    assert_eq!(rt; first(alloc, &plain, 0)?, Some(Some(29_999)));
+    Ok(())
+}
