@@ -38,13 +38,16 @@ length-faces M all_leaf ms =
   ∙ ap (λ n. n + length (numbered (face all_leaf) M.next_module (added M ms))) (simp length-map)
   ∙ ap (λ n. length M.modules + n) (length-numbered (face all_leaf) M.next_module (added M ms))
 
--- one module more: its row goes last where its name is new, and else nothing changes
-pub grown : (M : Plain) (all_leaf : Bool) (ms : List TModule) (fs : Named Face) (i : ℕ) (m : TModule) (rows more : List PModule) → i < length ms → m ≡ get_or ms i m
-    → fs ≡ faces M all_leaf ms → rows ≡ M.modules ++ numbered (row fs all_leaf) M.next_module (added M (take i ms))
-    → (place_of fs m.name.name ≢ Some (length rows) → more ≡ rows)
-    → ((leaf : Bool) (id : ℕ) → place_of fs m.name.name ≡ Some (length rows) → slice_get fs (length rows) ≡ Some (face leaf id m) → more ≡ rows ++ row fs leaf id m ∷ [])
-    → more ≡ M.modules ++ numbered (row fs all_leaf) M.next_module (added M (take (i + 1) ms))
-grown M all_leaf ms fs i m rows more within here faces_are so_far again new = at_h (has_module M before m.name.name) refl
+-- A module of a text, after which so many modules are in the table: its name is there already, and nothing is added; or its
+-- face is the next, and it is added.
+pub data IsAdded (M : Plain) (all_leaf : Bool) (ms : List TModule) (fs : Named Face) (i : ℕ) (m : TModule) (count : ℕ) : Type 0 where
+  again : place_of fs m.name.name ≢ Some count → added M (take (i + 1) ms) ≡ added M (take i ms) → IsAdded M all_leaf ms fs i m count
+  new : place_of fs m.name.name ≡ Some count → slice_get fs count ≡ Some (face all_leaf (M.next_module + length (added M (take i ms))) m)
+      → added M (take (i + 1) ms) ≡ added M (take i ms) ++ m ∷ [] → slice_get (added M ms) (length (added M (take i ms))) ≡ Some m → IsAdded M all_leaf ms fs i m count
+
+pub is_added : (M : Plain) (all_leaf : Bool) (ms : List TModule) (fs : Named Face) (i : ℕ) (m : TModule) (count : ℕ) → i < length ms → m ≡ get_or ms i m
+    → fs ≡ faces M all_leaf ms → count ≡ length M.modules + length (added M (take i ms)) → IsAdded M all_leaf ms fs i m count
+is_added M all_leaf ms fs i m count within here faces_are counted = at_h (has_module M before m.name.name) refl
   where
     before : List TModule
     before = take i ms
@@ -54,32 +57,73 @@ grown M all_leaf ms fs i m rows more within here faces_are so_far again new = at
     id = M.next_module + length (added M before)
     parts : fs ≡ faces M all_leaf before ++ numbered (face all_leaf) id ((if has_module M before m.name.name then [] else m ∷ []) ++ later)
     parts = faces_are ∙ ap (faces M all_leaf) (parted ms i m within here) ∙ faces-parted M all_leaf before m (drop (i + 1) ms)
-    len : length rows ≡ length (faces M all_leaf before)
-    len = ap length so_far ∙ length-append M.modules (numbered (row fs all_leaf) M.next_module (added M before))
-      ∙ ap (λ n. length M.modules + n) (length-numbered (row fs all_leaf) M.next_module (added M before)) ∙ sym (length-faces M all_leaf before)
+    len : count ≡ length (faces M all_leaf before)
+    len = counted ∙ sym (length-faces M all_leaf before)
     next : added M (take (i + 1) ms) ≡ added M before ++ (if has_module M before m.name.name then [] else m ∷ [])
     next = ap (added M) (one_more ms i m within here) ∙ added-more M before m
-    at_h : (h : Bool) → has_module M before m.name.name ≡ h → more ≡ M.modules ++ numbered (row fs all_leaf) M.next_module (added M (take (i + 1) ms))
+    all : added M ms ≡ added M before ++ ((if has_module M before m.name.name then [] else m ∷ []) ++ later)
+    all = ap (added M) (parted ms i m within here)
+      ∙ each_after-append (λ before (m : TModule). if has_module M before m.name.name then [] else m ∷ []) [] before (m ∷ drop (i + 1) ms)
+    at_h : (h : Bool) → has_module M before m.name.name ≡ h → IsAdded M all_leaf ms fs i m count
     at_h true h =
       let there : is_there (faces M all_leaf before) m.name.name ≡ true = there-faces M all_leaf before m.name.name ∙ h in
       let others : Named Face = numbered (face all_leaf) id ((if has_module M before m.name.name then [] else m ∷ []) ++ later) in
       let place : place_of fs m.name.name ≡ place_of (faces M all_leaf before) m.name.name
         = ap (λ es. place_of es m.name.name) parts ∙ place-there (faces M all_leaf before) others m.name.name there in
-      let not_next : place_of fs m.name.name ≢ Some (length rows)
-        = λ at. let below : length rows < length (faces M all_leaf before) = place-below (faces M all_leaf before) m.name.name (length rows) (sym place ∙ at) in omega (arith, len) in
-      let same : added M (take (i + 1) ms) ≡ added M before = next ∙ ap (λ (h : Bool). added M before ++ cond h [] (m ∷ [])) h ∙ append-nil (added M before) in
-      again not_next ∙ so_far ∙ ap (λ new. M.modules ++ numbered (row fs all_leaf) M.next_module new) (sym same)
+      again
+      (λ at. let below : count < length (faces M all_leaf before) = place-below (faces M all_leaf before) m.name.name count (sym place ∙ at) in omega (arith, len))
+      (next ∙ ap (λ (h : Bool). added M before ++ cond h [] (m ∷ [])) h ∙ append-nil (added M before))
     at_h false h =
       let fresh : is_there (faces M all_leaf before) m.name.name ≡ false = there-faces M all_leaf before m.name.name ∙ h in
       let others : Named Face = numbered (face all_leaf) (id + 1) later in
       let here : fs ≡ faces M all_leaf before ++ face all_leaf id m ∷ others
         = parts ∙ ap (λ (h : Bool). faces M all_leaf before ++ numbered (face all_leaf) id (cond h [] (m ∷ []) ++ later)) h in
-      let at : place_of fs m.name.name ≡ Some (length rows)
-        = ap (λ es. place_of es m.name.name) here ∙ place-new (faces M all_leaf before) others (face all_leaf id m) fresh ∙ ap Some (sym len) in
-      let is : slice_get fs (length rows) ≡ Some (face all_leaf id m)
-        = ap (slice_get fs) len ∙ ap (λ es. slice_get es (length (faces M all_leaf before))) here ∙ item-after (faces M all_leaf before) others (face all_leaf id m) in
-      let one : added M (take (i + 1) ms) ≡ added M before ++ m ∷ [] = next ∙ ap (λ (h : Bool). added M before ++ cond h [] (m ∷ [])) h in
-      new all_leaf id at is
-      ∙ ap (λ rows. rows ++ row fs all_leaf id m ∷ []) so_far
-      ∙ append_assoc M.modules (numbered (row fs all_leaf) M.next_module (added M before)) (row fs all_leaf id m ∷ [])
+      new
+      (ap (λ es. place_of es m.name.name) here ∙ place-new (faces M all_leaf before) others (face all_leaf id m) fresh ∙ ap Some (sym len))
+      (ap (slice_get fs) len ∙ ap (λ es. slice_get es (length (faces M all_leaf before))) here ∙ item-after (faces M all_leaf before) others (face all_leaf id m))
+      (next ∙ ap (λ (h : Bool). added M before ++ cond h [] (m ∷ [])) h)
+      (ap (λ ms. slice_get ms (length (added M before))) (all ∙ ap (λ (h : Bool). added M before ++ (cond h [] (m ∷ []) ++ later)) h) ∙ item-after (added M before) later m)
+
+-- one module more: its row goes last where it is added, and else nothing changes
+pub grown : (M : Plain) (all_leaf : Bool) (ms : List TModule) (fs : Named Face) (i : ℕ) (m : TModule) (rows more : List PModule) → i < length ms → m ≡ get_or ms i m
+    → fs ≡ faces M all_leaf ms → rows ≡ M.modules ++ numbered (row fs all_leaf) M.next_module (added M (take i ms))
+    → (place_of fs m.name.name ≢ Some (length rows) → more ≡ rows)
+    → ((leaf : Bool) (id : ℕ) → place_of fs m.name.name ≡ Some (length rows) → slice_get fs (length rows) ≡ Some (face leaf id m) → more ≡ rows ++ row fs leaf id m ∷ [])
+    → more ≡ M.modules ++ numbered (row fs all_leaf) M.next_module (added M (take (i + 1) ms))
+grown M all_leaf ms fs i m rows more within here faces_are so_far if_again if_new = at_m (is_added M all_leaf ms fs i m (length rows) within here faces_are len)
+  where
+    before : List TModule
+    before = take i ms
+    len : length rows ≡ length M.modules + length (added M before)
+    len = ap length so_far ∙ length-append M.modules (numbered (row fs all_leaf) M.next_module (added M before))
+      ∙ ap (λ n. length M.modules + n) (length-numbered (row fs all_leaf) M.next_module (added M before))
+    at_m : IsAdded M all_leaf ms fs i m (length rows) → more ≡ M.modules ++ numbered (row fs all_leaf) M.next_module (added M (take (i + 1) ms))
+    at_m (again other same) = if_again other ∙ so_far ∙ ap (λ new. M.modules ++ numbered (row fs all_leaf) M.next_module new) (sym same)
+    at_m (new at is one all) =
+      if_new all_leaf (M.next_module + length (added M before)) at is
+      ∙ ap (λ rows. rows ++ row fs all_leaf (M.next_module + length (added M before)) m ∷ []) so_far
+      ∙ append_assoc M.modules (numbered (row fs all_leaf) M.next_module (added M before)) (row fs all_leaf (M.next_module + length (added M before)) m ∷ [])
       ∙ ap (λ rows. M.modules ++ rows) (sym (ap (numbered (row fs all_leaf) M.next_module) one ∙ numbered-push (row fs all_leaf) M.next_module (added M before) m))
+
+-- Counting the modules that are added.
+
+pub count-again : (M : Plain) (all_leaf : Bool) (ms : List TModule) (fs : Named Face) (i : ℕ) (m : TModule) (count : ℕ) → i < length ms → m ≡ get_or ms i m
+    → fs ≡ faces M all_leaf ms → count ≡ length M.modules + length (added M (take i ms)) → place_of fs m.name.name ≢ Some count
+    → count ≡ length M.modules + length (added M (take (i + 1) ms))
+count-again M all_leaf ms fs i m count within here faces_are counted other = at_m (is_added M all_leaf ms fs i m count within here faces_are counted)
+  where
+    at_m : IsAdded M all_leaf ms fs i m count → count ≡ length M.modules + length (added M (take (i + 1) ms))
+    at_m (again h same) = counted ∙ ap (λ new. length M.modules + length new) (sym same)
+    at_m (new at is one all) = absurd (other at)
+
+pub count-new : (M : Plain) (all_leaf : Bool) (ms : List TModule) (fs : Named Face) (i : ℕ) (m : TModule) (count : ℕ) → i < length ms → m ≡ get_or ms i m
+    → fs ≡ faces M all_leaf ms → count ≡ length M.modules + length (added M (take i ms)) → place_of fs m.name.name ≡ Some count
+    → (count + 1 ≡ length M.modules + length (added M (take (i + 1) ms))) × (slice_get (added M ms) (length (added M (take i ms))) ≡ Some m)
+count-new M all_leaf ms fs i m count within here faces_are counted at = at_m (is_added M all_leaf ms fs i m count within here faces_are counted)
+  where
+    at_m : IsAdded M all_leaf ms fs i m count
+        → (count + 1 ≡ length M.modules + length (added M (take (i + 1) ms))) × (slice_get (added M ms) (length (added M (take i ms))) ≡ Some m)
+    at_m (again other same) = absurd (other at)
+    at_m (new h is one all) =
+      let more : length (added M (take (i + 1) ms)) ≡ length (added M (take i ms)) + 1 = ap length one ∙ (rw (length-append (added M (take i ms)) (m ∷ [])) (grind arith)) in
+      (omega (arith, more, counted), all)

@@ -12,7 +12,7 @@ use Rattle.vlog_elab.specs.Faces.{added}
 use Rattle.vlog_elab.specs.Declarations.{declaration_checks}
 use Rattle.vlog_elab.specs.Connections.{connection_checks}
 use Rattle.vlog_elab.specs.Table.{built}
-use Rattle.vlog_elab.specs.Cycle.{IsFirstOnCycle}
+use Rattle.flatten_rules.specs.Cycle.{IsFirstOnCycle}
 
 -- the first two rounds: all modules' declarations, and then their connections
 unfoldable pub checks : Plain → Bool → Tree → List Check

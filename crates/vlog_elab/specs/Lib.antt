@@ -10,6 +10,5 @@ pub mod Walk
 pub mod Walks
 pub mod Table
 pub mod Pins
-pub mod Cycle
 pub mod Elaboration
 pub mod Law

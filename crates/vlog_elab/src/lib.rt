@@ -3,6 +3,7 @@
 
 mod conns;
 mod declarations;
+mod elaborate;
 mod face;
 mod fault;
 mod modules;
@@ -18,4 +19,5 @@ mod select;
 mod table;
 mod same;
 
+pub use elaborate::elab;
 pub use fault::{ElabFault, ElabKind};
