@@ -1,0 +1,89 @@
+-- The second round in a module: its walk is the checks of the definition.
+use Rattle.std.proofs.Common.{arith, ◌≡◌, ◌≢◌, ℕ, zero, suc, ◌+◌, ◌≤◌, ◌<◌, [], ◌∷◌, ◌++◌, None, Some, Option, Bool, true, false, List, map, length, refl, sym, ◌∙◌, ap, cond, nat_eq, Result, Ok, Err}
+use Rattle.std.specs.Prelude.{◌||◌, ◌==◌, not, is_some, is_none, if◌then◌else◌}
+use Rattle.std.specs.List.{list_any, flat_map}
+use Rattle.std.proofs.lemmas.List.{append-nil, length-append}
+use Rattle.vlog_read.specs.declared.tree.At.{At}
+use Rattle.vlog_read.specs.declared.tree.TConn.{TConn}
+use Rattle.vlog_read.specs.declared.tree.TModule.{TModule}
+use Rattle.vlog_elab.specs.declared.fault.ElabFault.{ElabFault}
+use Rattle.vlog_elab.specs.declared.face.Port.{Port}
+use Rattle.vlog_elab.specs.declared.face.Face.{Face}
+use Rattle.vlog_elab.specs.declared.scope.Net.{Net}
+use Rattle.vlog_elab.specs.declared.scope.Scope.{Scope}
+use Rattle.vlog_elab.specs.Check.{Check, first, each_after}
+use Rattle.vlog_elab.specs.Named.{Named, named, is_there, firsts}
+use Rattle.vlog_elab.specs.Steps.{Step, Declares, Places, Connects, Uses, Fits, conn_steps, steps, net_at, inst_at, met}
+use Rattle.vlog_elab.specs.Connections.{port_named, ports_named, mixes, conn_checks, step_checks, inner_checks}
+use Rattle.vlog_elab.specs.Walk.{Walk, or_else, first_fault, at_end, Found, Passed, Fails, Walks, Checks}
+use Rattle.vlog_elab.specs.Walks.{with_new, after_step, step_walk}
+use Rattle.vlog_elab.proofs.Naming.{firsts-append}
+use Rattle.vlog_elab.proofs.Walking.{or_else-None, found-along, fails-before, fails-then, walks-then, flat_map-push, walked, known-at_end, each_after-append}
+
+few_named : (cs : List TConn) → length (ports_named cs) ≤ length cs
+few_named [] = omega arith
+few_named (c ∷ cs) = at_port c.port (few_named cs)
+  where
+    at_port : (p : Option At) → length (ports_named cs) ≤ length cs → length (port_named p ++ ports_named cs) ≤ length (c ∷ cs)
+    at_port None h = grind arith
+    at_port (Some n) h = grind arith
+
+-- a connection before it was by name where one names a port
+pub mixes-order : (cs : List TConn) → mixes cs false ≡ not (length (ports_named cs) == 0)
+mixes-order [] = refl
+mixes-order (c ∷ cs) = at_port c.port (mixes-order cs)
+  where
+    at_port : (p : Option At) → mixes cs false ≡ not (length (ports_named cs) == 0) → (is_some p || mixes cs false) ≡ not (length (port_named p ++ ports_named cs) == 0)
+    at_port None h = h
+    at_port (Some n) h = grind arith
+
+-- and one was by order where not all do
+pub mixes-name : (cs : List TConn) → mixes cs true ≡ not (length (ports_named cs) == length cs)
+mixes-name [] = refl
+mixes-name (c ∷ cs) = at_port c.port (mixes-name cs) (few_named cs)
+  where
+    at_port : (p : Option At) → mixes cs true ≡ not (length (ports_named cs) == length cs) → length (ports_named cs) ≤ length cs → (is_none p || mixes cs true) ≡ not (length (port_named p ++ ports_named cs) == length (c ∷ cs))
+    at_port None h few = let no : nat_eq (length (ports_named cs)) (suc (length cs)) ≡ false = grind arith in rw no refl
+    at_port (Some m) h few = h ∙ ap not (let e : nat_eq (length (ports_named cs)) (length cs) ≡ nat_eq (suc (length (ports_named cs))) (suc (length cs)) = grind arith in e)
+
+-- a connection changes nothing that is met
+pub connects-pass : (s : Scope) (ports : Named Port) (inst : At) (before : List TConn) (c : TConn) → first (conn_checks ports inst before c c.port) ≡ None → Passed step_walk s (Connects ports inst before c ∷ []) s
+connects-pass s ports inst before c none = record {
+  none = or_else-None (first (conn_checks ports inst before c c.port)) ∙ none;
+  end = rw (append-nil s.insts) refl;
+}
+
+pub connects-fails : (s : Scope) (ports : Named Port) (inst : At) (before : List TConn) (c : TConn) (e : ElabFault) → Found (first (conn_checks ports inst before c c.port)) e
+    → Fails step_walk s (conn_steps ports inst before c) e
+connects-fails s ports inst before c e f =
+  fails-before (map Uses c.parts ++ Fits ports before c ∷ []) (let q : Fails step_walk s (Connects ports inst before c ∷ []) e = record { found = found-along _ _ e (or_else-None (first (conn_checks ports inst before c c.port))) f } in q)
+
+pub uses-fail : (s : Scope) (ports : Named Port) (inst : At) (before : List TConn) (c : TConn) (e : ElabFault) → first (conn_checks ports inst before c c.port) ≡ None
+    → Fails step_walk s (map Uses c.parts) e → Fails step_walk s (conn_steps ports inst before c) e
+uses-fail s ports inst before c e none q = fails-then (connects-pass s ports inst before c none) (fails-before (Fits ports before c ∷ []) q)
+
+pub conn-gives : {T : Type 0} (s t u : Scope) (ports : Named Port) (inst : At) (before : List TConn) (c : TConn) (r : Result T ElabFault) → first (conn_checks ports inst before c c.port) ≡ None
+    → Passed step_walk s (map Uses c.parts) t → Walks step_walk t (Fits ports before c ∷ []) r u → Walks step_walk s (conn_steps ports inst before c) r u
+conn-gives s t u ports inst before c r none p q =
+  walks-then (map Uses c.parts ++ Fits ports before c ∷ []) r u (connects-pass s ports inst before c none)
+  (walks-then (Fits ports before c ∷ []) r u p q)
+
+-- What is met grows step by step.
+
+pub met-more : (before : List Step) (step : Step) → met (before ++ step ∷ []) ≡ after_step (met before) step
+met-more before step =
+  let ns : firsts (flat_map net_at (before ++ step ∷ [])) ≡ with_new (firsts (flat_map net_at before)) (net_at step)
+    = ap firsts (flat_map-push net_at before step) ∙ firsts-append (flat_map net_at before) (net_at step) in
+  rw (ns, flat_map-push inst_at before step) refl
+
+-- the checks of a module, by its walk
+pub inner_checks-walk : (faces : Named Face) (m : TModule) → first (inner_checks faces m) ≡ first_fault step_walk (record { nets = []; insts = [] }) (steps faces m)
+inner_checks-walk faces m = walked step_walk met met-more [] (steps faces m)
+
+pub met-walk : (before : List Step) → met before ≡ at_end step_walk (record { nets = []; insts = [] }) before
+met-walk before = known-at_end step_walk met met-more [] before
+
+-- what the walk through a module gives, as its checks
+pub inner-give : {T : Type 0} (faces : Named Face) (m : TModule) (s t : Scope) (r : Result T ElabFault) → s ≡ record { nets = []; insts = [] } → Walks step_walk s (steps faces m) r t → Checks (inner_checks faces m) r
+inner-give faces m s t (Ok v) e p = inner_checks-walk faces m ∙ (rw (← e) p.none)
+inner-give faces m s t (Err fault) e q = found-along _ _ fault (inner_checks-walk faces m) (rw (← e) q.found)

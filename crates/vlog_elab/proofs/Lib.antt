@@ -1,0 +1,14 @@
+pub mod Naming
+pub mod Each
+pub mod Walking
+pub mod Numbering
+pub mod Declaring
+pub mod Alike
+pub mod Knowing
+pub mod Adding
+pub mod Joining
+pub mod Rounds
+pub mod Rising
+pub mod Building
+pub mod Meeting
+pub mod Sourcing

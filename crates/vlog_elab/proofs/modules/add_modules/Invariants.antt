@@ -1,0 +1,7 @@
+use Rattle.std.proofs.Common.{take}
+use Rattle.vlog_elab.specs.Walk.{Passed}
+use Rattle.vlog_elab.specs.Walks.{module_walk}
+use Rattle.vlog_elab.proofs.modules.add_modules.Given as goal
+
+abbrev pub invariant-loop-m : goal.invariant-loop-m
+invariant-loop-m l = Passed (module_walk l.all_leaf) l.initial.known (take l.m-index l.modules) l.known

@@ -1,0 +1,14 @@
+pub mod Agree
+pub mod Check
+pub mod Named
+pub mod Text
+pub mod Faces
+pub mod Declarations
+pub mod Steps
+pub mod Connections
+pub mod Walk
+pub mod Walks
+pub mod Table
+pub mod Pins
+pub mod Elaboration
+pub mod Law

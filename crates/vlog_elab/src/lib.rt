@@ -1,0 +1,23 @@
+//! Elaboration: from the tree of a netlist to its module table, or to the first rule that is broken.
+#![tactic(auto)]
+
+mod conns;
+mod declarations;
+mod elaborate;
+mod face;
+mod fault;
+mod modules;
+mod names;
+mod bits;
+mod connections;
+mod nets;
+mod ports;
+mod rows;
+mod said;
+mod scope;
+mod select;
+mod table;
+mod same;
+
+pub use elaborate::elab;
+pub use fault::{ElabFault, ElabKind};

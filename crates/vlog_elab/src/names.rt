@@ -1,0 +1,128 @@
+ghost use Rattle.std.specs.Prelude.{◌≡◌, [], ◌∷◌, ◌++◌, true, false, length, slice_get, OnOk, OnErr};
+ghost use Rattle.std.specs.Option.{option_copied, option_map};
+ghost use Rattle.vlog_elab.specs.Named.{named, place_of, is_there};
+
+use emh_base::{Name, NoMemory};
+use std::alloc::Global;
+use std::collections::BTreeMap;
+use std::marker::Model;
+
+/// Names, each with a value, in the order in which they were added. The first of a name is found, in logarithmic time.
+#[derive(Drop)]
+pub struct Names<'a, V> {
+    places: BTreeMap<&'a [u8], usize>,
+    entries: Vec<(&'a Name, V)>,
+}
+
+impl<'a, V> Model for Names<'a, V> {
+    ghost use Rattle.std.specs.Prelude.{List, ℕ};
+    ghost use Rattle.std.specs.Coded.{coded_list, coded_ℕ, coded×};
+    ghost use Rattle.vlog_elab.specs.Agree.{texts, Agrees};
+
+    ghost Value = { List (List ℕ × V) };
+
+    ghost coded = { coded_list (coded× (coded_list coded_ℕ) V.code) };
+
+    ghost view = { λ names. texts names.entries.items };
+
+    ghost invariant = { λ names. Agrees names.places names.entries.items };
+}
+
+impl<'a, V: Drop> Names<'a, V> {
+    /// No names. It takes no memory yet.
+    pub fn new(alloc: Global) -> Names<'a, V>
+        ensures { result ≡ [] }
+    {
+        Names {
+            places: BTreeMap::new(alloc),
+            entries: Vec::new(alloc),
+        }
+    }
+
+    /// How many were added.
+    pub fn len(&self) -> usize
+        ensures { result ≡ length self.now }
+    {
+        self.entries.len()
+    }
+
+    /// The place of the first of that name, counted from 0.
+    pub fn find(&self, name: &Name) -> Option<usize>
+        ensures { result ≡ place_of self.now name.now }
+    {
+        self.places.get(name.as_bytes()).copied()
+    }
+
+    pub fn contains(&self, name: &Name) -> bool
+        ensures { result ≡ is_there self.now name.now }
+    {
+        self.find(name).is_some()
+    }
+
+    /// The value of that name.
+    pub fn get(&self, name: &Name) -> Option<&V>
+        ensures { option_copied result ≡ named self.now name.now }
+    {
+        match self.find(name) {
+            Some(place) => self.at(place),
+            None => None,
+        }
+    }
+
+    /// The value at a place, counted from 0, or none past the end.
+    pub fn at(&self, place: usize) -> Option<&V>
+        ensures { option_copied result ≡ option_map (λ e. e.1) (slice_get self.now place) }
+    {
+        match self.entries.get(place) {
+            Some((_, value)) => Some(value),
+            None => None,
+        }
+    }
+
+    /// The name at a place, counted from 0, or none past the end.
+    pub fn name(&self, place: usize) -> Option<&'a Name>
+        ensures { option_copied result ≡ option_map (λ e. e.0) (slice_get self.now place) }
+    {
+        match self.entries.get(place) {
+            Some((name, _)) => Some(*name),
+            None => None,
+        }
+    }
+
+    /// Puts a name last. After want of memory all is as before.
+    pub fn push(&mut self, name: &'a Name, value: V) -> Result<(), NoMemory>
+        ensures ok { OnOk result (self.new ≡ self.old ++ (name.now, value) ∷ []) }
+        ensures err { OnErr result (self.new ≡ self.old) }
+    {
+        if self.contains(name) {
+            self.push_again(name, value)
+        } else {
+            self.push_first(name, value)
+        }
+    }
+
+    fn push_again(&mut self, name: &'a Name, value: V) -> Result<(), NoMemory>
+        requires { is_there self.old name.now ≡ true }
+        ensures ok { OnOk result (self.new ≡ self.old ++ (name.now, value) ∷ []) }
+        ensures err { OnErr result (self.new ≡ self.old) }
+    {
+        self.entries.push((name, value))?;
+        Ok(())
+    }
+
+    fn push_first(&mut self, name: &'a Name, value: V) -> Result<(), NoMemory>
+        requires { is_there self.old name.now ≡ false }
+        ensures ok { OnOk result (self.new ≡ self.old ++ (name.now, value) ∷ []) }
+        ensures err { OnErr result (self.new ≡ self.old) }
+    {
+        let place = self.entries.len();
+        self.entries.push((name, value))?;
+        match self.places.insert(name.as_bytes(), place) {
+            Ok(_) => Ok(()),
+            Err(_) => {
+                self.entries.pop();
+                Err(NoMemory)
+            }
+        }
+    }
+}

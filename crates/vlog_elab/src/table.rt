@@ -1,0 +1,54 @@
+//! The table of a text, as rows.
+ghost use Rattle.std.specs.Prelude.{◌≡◌, ◌≢◌, ℕ, Bool, Some, ◌++◌, ◌∷◌, [], length, slice_get, IfOk, OnOk};
+ghost use Rattle.vlog_elab.specs.Named.{place_of, numbered};
+ghost use Rattle.vlog_elab.specs.Faces.{added, face, faces};
+ghost use Rattle.vlog_elab.specs.Table.{row};
+
+use crate::face::Face;
+use crate::names::Names;
+use crate::rows::row_of;
+use emh_base::{List, NoMemory, PModule, Plain, TryCopy};
+use std::alloc::Global;
+use vlog_read::TModule;
+
+/// The modules of a table, and after them those that a text adds to it, where all of them have these faces.
+pub fn rows_of(
+    alloc: Global,
+    table: &Plain,
+    masters: &Names<'_, Face<'_>>,
+    modules: &[TModule],
+) -> Result<List<PModule>, NoMemory>
+    ensures { (all_leaf : Bool) → masters.now ≡ faces table.now all_leaf modules.now → IfOk result (λ rows. rows
+        ≡ table.now.modules ++ numbered (row masters.now all_leaf) table.now.next_module (added table.now modules.now)) }
+{
+    let mut rows = table.modules.copy()?;
+    for m in modules {
+        add_row(alloc, &mut rows, masters, m)?;
+    }
+    Ok(rows)
+}
+
+/// Puts the row of a module last, where it is the next whose face is there: the first of its name.
+fn add_row(
+    alloc: Global,
+    rows: &mut List<PModule>,
+    masters: &Names<'_, Face<'_>>,
+    m: &TModule,
+) -> Result<(), NoMemory>
+    ensures again { place_of masters.now m.now.name.name ≢ Some (length rows.old) → OnOk result (rows.new ≡ rows.old) }
+    ensures new { (all_leaf : Bool) (id : ℕ) → place_of masters.now m.now.name.name ≡ Some (length rows.old)
+        → slice_get masters.now (length rows.old) ≡ Some (face all_leaf id m.now)
+        → OnOk result (rows.new ≡ rows.old ++ row masters.now all_leaf id m.now ∷ []) }
+{
+    let Some(place) = masters.find(&m.name.name) else {
+        return Ok(());
+    };
+    if place != rows.len() {
+        return Ok(());
+    }
+    let Some(own) = masters.at(place) else {
+        return Ok(());
+    };
+    let row = row_of(alloc, masters, own, m)?;
+    rows.push(row)
+}
