@@ -10,3 +10,4 @@ pub mod Settings
 pub mod Apply
 pub mod Good
 pub mod Examples
+pub mod Judged

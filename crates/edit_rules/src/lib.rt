@@ -1,6 +1,11 @@
 //! The twenty-one edits of a design: what each of them does, what refuses it, and which states they lead to.
 #![tactic(auto)]
 
+mod judged;
 mod laws;
+mod modules;
+mod readers;
+mod rewrite;
 
+pub use judged::{Judged, Need};
 pub use laws::worked_edits;
