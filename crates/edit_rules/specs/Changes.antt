@@ -24,8 +24,8 @@ with_last_module M m = record M { modules = M.modules ++ m ∷ []; next_module =
 abbrev pub with_conns : (List Conn → List Conn) → PInst → PInst
 with_conns change inst = record inst { conns = change inst.conns }
 
--- the connections of each instance of a module, wherever it stands
-abbrev pub at_instances : Plain → ModId → (List Conn → List Conn) → Plain
+-- each instance of a module, wherever it stands
+abbrev pub at_instances : Plain → ModId → (PInst → PInst) → Plain
 at_instances M id change = record M {
-  modules = map (with_insts (λ inst. if inst.master.0 == id.0 then with_conns change inst else inst)) M.modules;
+  modules = map (with_insts (λ inst. if inst.master.0 == id.0 then change inst else inst)) M.modules;
 }

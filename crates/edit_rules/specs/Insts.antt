@@ -16,7 +16,7 @@ use Rattle.emh_base.specs.declared.rule.Object.TheVariants.{Module, Net, Inst, P
 use Rattle.flatten_rules.specs.Lookup.{module_of, width_of}
 use Rattle.flatten_rules.specs.Domains.{is_leaf, ports_of}
 use Rattle.edit_rules.specs.Check.{Check, check}
-use Rattle.edit_rules.specs.Readers.{is_module, next_inst_of, is_at_end, is_name_in, is_module_name, net_in, port_in, inst_in, master_id, master_of, users, port_place, conn_of, is_connected, same_ports}
+use Rattle.edit_rules.specs.Readers.{is_module, next_inst_of, is_at_end, is_name_in, is_module_name, is_net, is_port, is_inst, net_in, inst_in, master_id, master_of, users, port_place, conn_of, is_connected, same_ports}
 use Rattle.edit_rules.specs.Limits.{is_too_deep, has_too_many_occurrences, has_too_many_bits, leads_to}
 use Rattle.edit_rules.specs.Changes.{with_module, with_inst, with_last_module, with_conns}
 use Rattle.edit_rules.specs.Modules.{common}
@@ -56,14 +56,14 @@ delete_inst M m inst =
     with_module M m (λ holder. record holder { insts = filter (λ other. not (other.id.0 == inst.0)) holder.insts })
 
 abbrev pub delete_inst_rules : State → ModId → InstId → List Check
-delete_inst_rules S m inst = common S m ++ check NoSuchInst (Inst m inst) (is_none (inst_in S.plain m inst)) ∷ []
+delete_inst_rules S m inst = common S m ++ check NoSuchInst (Inst m inst) (not (is_inst S.plain m inst)) ∷ []
 
 -- what is looked at where an edit names a port of an instance's master
 abbrev pub names_port : State → ModId → InstId → NetId → List Check
 names_port S m inst port =
-    check NoSuchInst (Inst m inst) (is_none (inst_in S.plain m inst))
+    check NoSuchInst (Inst m inst) (not (is_inst S.plain m inst))
     ∷ check NoSuchPort (Port (master_id (inst_in S.plain m inst)) port)
-    (is_none (port_in S.plain (master_id (inst_in S.plain m inst)) port))
+    (not (is_port S.plain (master_id (inst_in S.plain m inst)) port))
     ∷ []
 
 -- the connection of an instance at a port of its master is this one
@@ -85,7 +85,7 @@ abbrev pub source_rules : State → ModId → Src → List Check
 source_rules S m Tie0 = []
 source_rules S m Tie1 = []
 source_rules S m (Bit net offset) =
-    check NoSuchNet (Net m net) (is_none (net_in S.plain m net))
+    check NoSuchNet (Net m net) (not (is_net S.plain m net))
     ∷ check BitOutOfRange (Net m net) (nat_le (width_of (net_in S.plain m net)) offset)
     ∷ []
 
@@ -115,7 +115,7 @@ rename_inst M m inst name = with_inst M m inst (λ there. record there { name = 
 abbrev pub rename_inst_rules : State → ModId → InstId → List ℕ → List Check
 rename_inst_rules S m inst name =
     common S m
-    ++ check NoSuchInst (Inst m inst) (is_none (inst_in S.plain m inst))
+    ++ check NoSuchInst (Inst m inst) (not (is_inst S.plain m inst))
     ∷ check NameTaken NewName (is_name_in (module_of S.plain m) name)
     ∷ []
 
@@ -129,7 +129,7 @@ resize_rules S m inst master =
     let old = master_of S.plain (inst_in S.plain m inst) in
     let new = module_of S.plain master in
     common S m
-    ++ check NoSuchInst (Inst m inst) (is_none (inst_in S.plain m inst))
+    ++ check NoSuchInst (Inst m inst) (not (is_inst S.plain m inst))
     ∷ check NoSuchModule (Module master) (not (is_module S.plain master))
     ∷ check NotLeaf (Inst m inst) (not (is_leaf old && is_leaf new))
     ∷ check PortsDiffer (Module master) (not (same_ports old new))
@@ -150,7 +150,7 @@ abbrev pub uniquify_rules : State → ModId → InstId → List ℕ → List Che
 uniquify_rules S m inst name =
     let master = master_id (inst_in S.plain m inst) in
     common S m
-    ++ check NoSuchInst (Inst m inst) (is_none (inst_in S.plain m inst))
+    ++ check NoSuchInst (Inst m inst) (not (is_inst S.plain m inst))
     ∷ check IsCell (Module master) (is_leaf (module_of S.plain master))
     ∷ check NotShared (Module master) (users S.plain master == 1)
     ∷ check NameTaken NewName (is_module_name S.plain name)

@@ -1,5 +1,5 @@
 -- The edits of nets and ports: for each the rules in the order in which they are looked at, and the table after it.
-use Rattle.std.specs.Prelude.{ℕ, ◌+◌, ◌==◌, not, List, [], ◌∷◌, ◌++◌, map, filter, remove, Option, Some, None, is_some, is_none, if◌then◌else◌}
+use Rattle.std.specs.Prelude.{ℕ, ◌+◌, ◌==◌, not, List, [], ◌∷◌, ◌++◌, map, filter, remove, Option, Some, None, if◌then◌else◌}
 use Rattle.emh_base.specs.declared.ids.ModId.{ModId}
 use Rattle.emh_base.specs.declared.ids.NetId.{NetId}
 use Rattle.emh_base.specs.declared.plain.Dir.{Dir}
@@ -14,9 +14,9 @@ use Rattle.emh_base.specs.declared.rule.Rule.TheVariants.{NoSuchNet, NoSuchPort,
 use Rattle.emh_base.specs.declared.rule.Object.TheVariants.{Module, Net, Port, NewName}
 use Rattle.flatten_rules.specs.Lookup.{module_of}
 use Rattle.edit_rules.specs.Check.{Check, check}
-use Rattle.edit_rules.specs.Readers.{next_net_of, is_at_end, is_name_in, net_in, port_in, is_too_wide, port_place, is_port_used, is_net_used}
+use Rattle.edit_rules.specs.Readers.{next_net_of, is_at_end, is_name_in, is_net, is_port, is_too_wide, port_place, is_port_used, is_net_used}
 use Rattle.edit_rules.specs.Limits.{has_too_many_bits}
-use Rattle.edit_rules.specs.Changes.{with_module, at_instances}
+use Rattle.edit_rules.specs.Changes.{with_module, at_instances, with_conns}
 use Rattle.edit_rules.specs.Modules.{common}
 
 -- CreateNet: a new net
@@ -52,8 +52,8 @@ delete_net M m net = with_module M m (without_net net)
 abbrev pub delete_net_rules : State → ModId → NetId → List Check
 delete_net_rules S m net =
     common S m
-    ++ check NoSuchNet (Net m net) (is_none (net_in S.plain m net))
-    ∷ check NetIsPort (Net m net) (is_some (port_in S.plain m net))
+    ++ check NoSuchNet (Net m net) (not (is_net S.plain m net))
+    ∷ check NetIsPort (Net m net) (is_port S.plain m net)
     ∷ check NetInUse (Net m net) (is_net_used (module_of S.plain m) net)
     ∷ []
 
@@ -65,7 +65,7 @@ with_port name dir range m =
 
 abbrev pub create_port : Plain → ModId → List ℕ → Dir → Option Range → Plain
 create_port M m name dir range =
-    at_instances (with_module M m (with_port name dir range)) m (λ conns. conns ++ Open ∷ [])
+    at_instances (with_module M m (with_port name dir range)) m (with_conns (λ conns. conns ++ Open ∷ []))
 
 abbrev pub create_port_rules : State → ModId → List ℕ → Dir → Option Range → List Check
 create_port_rules S m name dir range =
@@ -88,12 +88,12 @@ without_conn (Some place) conns = remove conns place
 
 abbrev pub delete_port : Plain → ModId → NetId → Plain
 delete_port M m port =
-    at_instances (with_module M m (without_port port)) m (without_conn (port_place (module_of M m) port))
+    at_instances (with_module M m (without_port port)) m (with_conns (without_conn (port_place (module_of M m) port)))
 
 abbrev pub delete_port_rules : State → ModId → NetId → List Check
 delete_port_rules S m port =
     common S m
-    ++ check NoSuchPort (Port m port) (is_none (port_in S.plain m port))
+    ++ check NoSuchPort (Port m port) (not (is_port S.plain m port))
     ∷ check PortInUse (Port m port) (is_port_used S.plain m port)
     ∷ check NetInUse (Port m port) (is_net_used (module_of S.plain m) port)
     ∷ []
@@ -111,6 +111,6 @@ rename_net M m net name =
 abbrev pub rename_net_rules : State → ModId → NetId → List ℕ → List Check
 rename_net_rules S m net name =
     common S m
-    ++ check NoSuchNet (Net m net) (is_none (net_in S.plain m net))
+    ++ check NoSuchNet (Net m net) (not (is_net S.plain m net))
     ∷ check NameTaken NewName (is_name_in (module_of S.plain m) name)
     ∷ []

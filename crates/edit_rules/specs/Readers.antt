@@ -1,6 +1,6 @@
 -- What the rules look at in a module table. Where the module, net, port or instance isn't there, there is nothing to see.
-use Rattle.std.specs.Prelude.{ℕ, ◌==◌, Bool, true, false, ◌&&◌, ◌||◌, nat_lt, List, [], ◌∷◌, Option, Some, None, is_some, option_and_then, bytes_eq, position, slice_get, sum_by, count_by}
-use Rattle.std.specs.List.{list_any}
+use Rattle.std.specs.Prelude.{ℕ, ◌==◌, Bool, true, false, ◌&&◌, ◌||◌, nat_lt, List, [], ◌∷◌, Option, Some, None, is_some, option_and_then, bytes_eq, position, slice_get, sum_by, count_by, length, zip}
+use Rattle.std.specs.List.{list_any, list_all}
 use Rattle.emh_base.specs.declared.ids.ModId.{ModId}
 use Rattle.emh_base.specs.declared.ids.NetId.{NetId}
 use Rattle.emh_base.specs.declared.ids.InstId.{InstId}
@@ -65,6 +65,15 @@ port_in M m net = option_and_then (λ holder. port_of holder net) (module_of M m
 abbrev pub inst_in : Plain → ModId → InstId → Option PInst
 inst_in M m inst = option_and_then (λ holder. inst_of holder inst) (module_of M m)
 
+abbrev pub is_net : Plain → ModId → NetId → Bool
+is_net M m net = is_some (net_in M m net)
+
+abbrev pub is_port : Plain → ModId → NetId → Bool
+is_port M m port = is_some (port_in M m port)
+
+abbrev pub is_inst : Plain → ModId → InstId → Bool
+is_inst M m inst = is_some (inst_in M m inst)
+
 -- a range with an index above 65,535, or of more than 4,096 bits
 abbrev pub is_too_wide : Option Range → Bool
 is_too_wide None = false
@@ -97,19 +106,28 @@ abbrev pub conns_of : Option PInst → List Conn
 conns_of None = []
 conns_of (Some inst) = inst.conns
 
+-- the connection at a place; none where there is no such place
+abbrev pub conn_at : Option ℕ → List Conn → Option Conn
+conn_at None conns = None
+conn_at (Some place) conns = slice_get conns place
+
 -- the connection of an instance at a port of its master
 abbrev pub conn_of : Plain → Option PInst → NetId → Option Conn
-conn_of M inst port = option_and_then (slice_get (conns_of inst)) (port_place (master_of M inst) port)
+conn_of M inst port = conn_at (port_place (master_of M inst) port) (conns_of inst)
 
 abbrev pub is_connected : Option Conn → Bool
 is_connected None = false
 is_connected (Some Open) = false
 is_connected (Some (Bits bits)) = true
 
+-- the instance is one of the module, and is connected at the place
+abbrev pub uses_place : ModId → Option ℕ → PInst → Bool
+uses_place m place inst = (inst.master.0 == m.0) && is_connected (conn_at place inst.conns)
+
 -- an instance of the module is connected at the port
 abbrev pub is_port_used : Plain → ModId → NetId → Bool
 is_port_used M m port =
-    list_any (λ holder. list_any (λ inst. inst.master.0 == m.0 && is_connected (conn_of M (Some inst) port)) holder.insts) M.modules
+    list_any (λ holder. list_any (uses_place m (port_place (module_of M m) port)) holder.insts) M.modules
 
 -- sources
 
@@ -147,15 +165,10 @@ same_net _ _ = false
 abbrev pub same_port : PModule → PModule → PPort → PPort → Bool
 same_port m other a b = same_dir a.dir b.dir && same_net (net_of m a.net) (net_of other b.net)
 
--- these ports of two modules are as many, and alike in name, direction and range one by one
-abbrev pub same_port_lists : PModule → PModule → List PPort → List PPort → Bool
-same_port_lists m other [] [] = true
-same_port_lists m other [] (b ∷ bs) = false
-same_port_lists m other (a ∷ as') [] = false
-same_port_lists m other (a ∷ as') (b ∷ bs) = same_port m other a b && same_port_lists m other as' bs
-
+-- the ports of two modules are as many, and alike in name, direction and range one by one
 abbrev pub same_ports : Option PModule → Option PModule → Bool
-same_ports (Some m) (Some other) = same_port_lists m other m.ports other.ports
+same_ports (Some m) (Some other) =
+    (length m.ports == length other.ports) && list_all (λ (p : PPort × PPort). same_port m other p.0 p.1) (zip m.ports other.ports)
 same_ports _ _ = false
 
 -- buffers

@@ -1,11 +1,13 @@
 //! The twenty-one edits of a design: what each of them does, what refuses it, and which states they lead to.
 #![tactic(auto)]
 
+mod changes;
 mod judged;
 mod laws;
 mod modules;
 mod readers;
 mod rewrite;
+mod table;
 
 pub use judged::{Judged, Need};
 pub use laws::worked_edits;

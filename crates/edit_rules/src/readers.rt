@@ -1,13 +1,15 @@
+//! What the rules look at in a table. Each is a plain pass over the list that it looks at.
+
 ghost use Rattle.std.specs.Prelude.{◌≡◌, ◌==◌, min, count_by, Some, bytes_eq};
 ghost use Rattle.std.specs.List.{list_any};
 ghost use Rattle.std.specs.Option.{option_copied};
-ghost use Rattle.flatten_rules.specs.Lookup.{module_of, net_of, inst_of};
+ghost use Rattle.flatten_rules.specs.Lookup.{module_of, net_of, port_of, inst_of};
 ghost use Rattle.flatten_rules.specs.Domains.{is_leaf};
-ghost use Rattle.edit_rules.specs.Readers.{is_module_name, is_name_in, is_locked, is_too_wide, users};
+ghost use Rattle.edit_rules.specs.Readers.{is_module, is_locked, is_module_name, is_name_in, is_net, is_port, is_inst, net_in, port_in, inst_in, next_net_of, is_too_wide, users};
 
-use emh_base::{InstId, ModId, NetId, PInst, PModule, PNet, Plain, Range};
+use emh_base::{InstId, ModId, NetId, PInst, PModule, PNet, PPort, Plain, Range};
 
-/// The module of that id. The modules are looked through in order, as nets and instances are below.
+/// The module of that id.
 pub fn module_of(plain: &Plain, id: ModId) -> Option<&PModule>
     ensures { option_copied result ≡ module_of plain.now id }
 {
@@ -18,20 +20,38 @@ pub fn module_of(plain: &Plain, id: ModId) -> Option<&PModule>
         .find(|holder| holder.id.0 == id.0)
 }
 
-pub fn net_of(holder: &PModule, id: NetId) -> Option<&PNet>
-    ensures { option_copied result ≡ net_of holder.now id }
+pub fn is_module(plain: &Plain, id: ModId) -> bool
+    ensures { result ≡ is_module plain.now id }
 {
-    holder.nets.as_slice().iter().find(|net| net.id.0 == id.0)
+    module_of(plain, id).is_some()
 }
 
-pub fn inst_of(holder: &PModule, id: InstId) -> Option<&PInst>
-    ensures { option_copied result ≡ inst_of holder.now id }
+pub fn is_leaf(plain: &Plain, id: ModId) -> bool
+    ensures { result ≡ is_leaf (module_of plain.now id) }
 {
-    holder
-        .insts
-        .as_slice()
-        .iter()
-        .find(|inst| inst.id.0 == id.0)
+    match module_of(plain, id) {
+        None => false,
+        Some(holder) => holder.leaf,
+    }
+}
+
+pub fn is_locked(plain: &Plain, id: ModId) -> bool
+    ensures { result ≡ is_locked (module_of plain.now id) }
+{
+    match module_of(plain, id) {
+        None => false,
+        Some(holder) => holder.locked,
+    }
+}
+
+/// The id that the next net of a module gets; 0 where the module isn't there.
+pub fn next_net(plain: &Plain, id: ModId) -> u32
+    ensures { result ≡ next_net_of (module_of plain.now id) }
+{
+    match module_of(plain, id) {
+        None => 0,
+        Some(holder) => holder.next_net,
+    }
 }
 
 /// Whether a module has the name.
@@ -46,13 +66,13 @@ pub fn is_module_name(plain: &Plain, name: &[u8]) -> bool
 }
 
 /// Whether a net or an instance of a module has the name.
-pub fn is_name_in(holder: &PModule, name: &[u8]) -> bool
-    ensures { result ≡ is_name_in (Some holder.now) name.now }
+pub fn is_name_in(plain: &Plain, id: ModId, name: &[u8]) -> bool
+    ensures { result ≡ is_name_in (module_of plain.now id) name.now }
 {
-    if is_net_name(holder, name) {
-        return true;
+    match module_of(plain, id) {
+        None => false,
+        Some(holder) => is_net_name(holder, name) || is_inst_name(holder, name),
     }
-    is_inst_name(holder, name)
 }
 
 fn is_net_name(holder: &PModule, name: &[u8]) -> bool
@@ -73,6 +93,93 @@ fn is_inst_name(holder: &PModule, name: &[u8]) -> bool
         .as_slice()
         .iter()
         .any(|inst| inst.name.as_bytes() == name)
+}
+
+/// A net of a module.
+pub fn net_in(plain: &Plain, id: ModId, net: NetId) -> Option<&PNet>
+    ensures { option_copied result ≡ net_in plain.now id net }
+{
+    match module_of(plain, id) {
+        None => None,
+        Some(holder) => net_of(holder, net),
+    }
+}
+
+/// A port of a module, by its inner net.
+pub fn port_in(plain: &Plain, id: ModId, port: NetId) -> Option<&PPort>
+    ensures { option_copied result ≡ port_in plain.now id port }
+{
+    match module_of(plain, id) {
+        None => None,
+        Some(holder) => port_of(holder, port),
+    }
+}
+
+/// An instance in a module.
+pub fn inst_in(plain: &Plain, id: ModId, inst: InstId) -> Option<&PInst>
+    ensures { option_copied result ≡ inst_in plain.now id inst }
+{
+    match module_of(plain, id) {
+        None => None,
+        Some(holder) => inst_of(holder, inst),
+    }
+}
+
+fn net_of(holder: &PModule, net: NetId) -> Option<&PNet>
+    ensures { option_copied result ≡ net_of holder.now net }
+{
+    let mut nets = holder.nets.as_slice().iter();
+    nets.find(|other| other.id.0 == net.0)
+}
+
+fn port_of(holder: &PModule, port: NetId) -> Option<&PPort>
+    ensures { option_copied result ≡ port_of holder.now port }
+{
+    let mut ports = holder.ports.as_slice().iter();
+    ports.find(|other| other.net.0 == port.0)
+}
+
+fn inst_of(holder: &PModule, inst: InstId) -> Option<&PInst>
+    ensures { option_copied result ≡ inst_of holder.now inst }
+{
+    let mut insts = holder.insts.as_slice().iter();
+    insts.find(|other| other.id.0 == inst.0)
+}
+
+pub fn is_net(plain: &Plain, id: ModId, net: NetId) -> bool
+    ensures { result ≡ is_net plain.now id net }
+{
+    net_in(plain, id, net).is_some()
+}
+
+pub fn is_port(plain: &Plain, id: ModId, port: NetId) -> bool
+    ensures { result ≡ is_port plain.now id port }
+{
+    port_in(plain, id, port).is_some()
+}
+
+pub fn is_inst(plain: &Plain, id: ModId, inst: InstId) -> bool
+    ensures { result ≡ is_inst plain.now id inst }
+{
+    inst_in(plain, id, inst).is_some()
+}
+
+/// Whether a net may not have the range: an index is above 65,535, or there are more than 4,096 bits.
+pub fn is_too_wide(range: Option<Range>) -> bool
+    ensures { result ≡ is_too_wide range }
+{
+    match range {
+        None => false,
+        Some(range) => {
+            if 65_535 < range.left {
+                return true;
+            }
+            if 65_535 < range.right {
+                return true;
+            }
+            4_096 < range.left.abs_diff(range.right) + 1
+        }
+    }
 }
 
 /// How many instances have a module as their master: none, one, or 2 for more.
