@@ -2,9 +2,11 @@
 #![tactic(auto)]
 
 mod changes;
+mod insts;
 mod judged;
 mod laws;
 mod modules;
+mod nets;
 mod readers;
 mod rewrite;
 mod table;

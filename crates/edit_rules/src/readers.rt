@@ -1,13 +1,13 @@
 //! What the rules look at in a table. Each is a plain pass over the list that it looks at.
 
-ghost use Rattle.std.specs.Prelude.{◌≡◌, ◌==◌, min, count_by, Some, bytes_eq};
+ghost use Rattle.std.specs.Prelude.{◌≡◌, ◌==◌, min, count_by, position, Some, bytes_eq};
 ghost use Rattle.std.specs.List.{list_any};
 ghost use Rattle.std.specs.Option.{option_copied};
 ghost use Rattle.flatten_rules.specs.Lookup.{module_of, net_of, port_of, inst_of};
 ghost use Rattle.flatten_rules.specs.Domains.{is_leaf};
-ghost use Rattle.edit_rules.specs.Readers.{is_module, is_locked, is_module_name, is_name_in, is_net, is_port, is_inst, net_in, port_in, inst_in, next_net_of, is_too_wide, users};
+ghost use Rattle.edit_rules.specs.Readers.{is_module, is_locked, is_module_name, is_name_in, is_net, is_port, is_inst, net_in, port_in, inst_in, next_net_of, is_too_wide, users, master_id, port_place, is_connected, conn_at, uses_place, is_port_used, is_net_used, names_net, is_of_net};
 
-use emh_base::{InstId, ModId, NetId, PInst, PModule, PNet, PPort, Plain, Range};
+use emh_base::{Conn, InstId, List, ModId, NetId, PInst, PModule, PNet, PPort, Plain, Range, Src};
 
 /// The module of that id.
 pub fn module_of(plain: &Plain, id: ModId) -> Option<&PModule>
@@ -203,4 +203,131 @@ fn users_in(holder: &PModule, id: ModId) -> usize
         .iter()
         .filter(|inst| inst.master.0 == id.0)
         .count()
+}
+
+/// The id of an instance's master; 0 where the instance isn't there.
+pub fn master_id(plain: &Plain, id: ModId, inst: InstId) -> ModId
+    ensures { result ≡ master_id (inst_in plain.now id inst) }
+{
+    match inst_in(plain, id, inst) {
+        None => ModId(0),
+        Some(there) => there.master,
+    }
+}
+
+/// The place of a port among the ports of its module.
+pub fn port_place(plain: &Plain, id: ModId, port: NetId) -> Option<usize>
+    ensures { result ≡ port_place (module_of plain.now id) port }
+{
+    match module_of(plain, id) {
+        None => None,
+        Some(holder) => place_of_port(holder, port),
+    }
+}
+
+fn place_of_port(holder: &PModule, port: NetId) -> Option<usize>
+    ensures { result ≡ position (λ other. other.net.0 == port.0) holder.now.ports }
+{
+    let mut ports = holder.ports.as_slice().iter();
+    ports.position(|other| other.net.0 == port.0)
+}
+
+/// Whether a connection isn't open.
+fn is_connected(conn: &Conn) -> bool
+    ensures { result ≡ is_connected (Some conn.now) }
+{
+    match conn {
+        Conn::Open => false,
+        Conn::Bits(_) => true,
+    }
+}
+
+/// Whether there is a connection at a place that isn't open.
+pub fn is_connected_at(conns: &List<Conn>, place: Option<usize>) -> bool
+    ensures { result ≡ is_connected (conn_at place conns.now) }
+{
+    match place {
+        None => false,
+        Some(place) => match conns.get(place) {
+            None => false,
+            Some(conn) => is_connected(conn),
+        },
+    }
+}
+
+/// Whether an instance of a module is connected at a port.
+pub fn is_port_used(plain: &Plain, id: ModId, port: NetId) -> bool
+    ensures { result ≡ is_port_used plain.now id port }
+{
+    let place = port_place(plain, id, port);
+    let mut modules = plain.modules.as_slice().iter();
+    modules.any(|holder| is_place_used(holder, id, place))
+}
+
+/// Whether an instance in `holder` has the other module as its master and is connected at a place.
+fn is_place_used(holder: &PModule, id: ModId, place: Option<usize>) -> bool
+    ensures { result ≡ list_any (uses_place id place) holder.now.insts }
+{
+    let mut insts = holder.insts.as_slice().iter();
+    insts.any(|inst| uses_place(inst, id, place))
+}
+
+fn uses_place(inst: &PInst, id: ModId, place: Option<usize>) -> bool
+    ensures { result ≡ uses_place id place inst.now }
+{
+    if inst.master.0 == id.0 {
+        is_connected_at(&inst.conns, place)
+    } else {
+        false
+    }
+}
+
+/// Whether a source in a module names a net.
+pub fn is_net_used(plain: &Plain, id: ModId, net: NetId) -> bool
+    ensures { result ≡ is_net_used (module_of plain.now id) net }
+{
+    match module_of(plain, id) {
+        None => false,
+        Some(holder) => is_net_used_in(holder, net),
+    }
+}
+
+fn is_net_used_in(holder: &PModule, net: NetId) -> bool
+    ensures { result ≡ is_net_used (Some holder.now) net }
+{
+    let mut insts = holder.insts.as_slice().iter();
+    insts.any(|inst| is_net_used_at(inst, net))
+}
+
+fn is_net_used_at(inst: &PInst, net: NetId) -> bool
+    ensures { result ≡ list_any (names_net net) inst.now.conns }
+{
+    let mut conns = inst.conns.as_slice().iter();
+    conns.any(|conn| names_net(conn, net))
+}
+
+fn names_net(conn: &Conn, net: NetId) -> bool
+    ensures { result ≡ names_net net conn.now }
+{
+    match conn {
+        Conn::Open => false,
+        Conn::Bits(bits) => is_among(bits, net),
+    }
+}
+
+fn is_among(bits: &List<Src>, net: NetId) -> bool
+    ensures { result ≡ list_any (is_of_net net) bits.now }
+{
+    let mut sources = bits.as_slice().iter();
+    sources.any(|source| is_of_net(*source, net))
+}
+
+fn is_of_net(source: Src, net: NetId) -> bool
+    ensures { result ≡ is_of_net net source }
+{
+    match source {
+        Src::Tie0 => false,
+        Src::Tie1 => false,
+        Src::Bit(other, _) => other.0 == net.0,
+    }
 }

@@ -1,4 +1,4 @@
-ghost use Rattle.std.specs.Prelude.{◌≡◌, [], ◌∷◌, ◌++◌, ◌==◌, not, map, filter, IfOk, if◌then◌else◌};
+ghost use Rattle.std.specs.Prelude.{◌≡◌, [], ◌∷◌, ◌++◌, ◌==◌, not, map, filter, remove, slice_set, IfOk, OnOk, if◌then◌else◌};
 
 use emh_base::{List, NoMemory, TryCopy};
 use flatten_rules::Numbered;
@@ -63,6 +63,16 @@ pub fn without<T: Numbered + TryCopy + Drop>(
     Ok(made)
 }
 
+/// Puts copies of items last.
+pub fn push_all<T: TryCopy + Drop>(made: &mut List<T>, items: &[T]) -> Result<(), NoMemory>
+    ensures { OnOk result (made.new ≡ made.old ++ items.now) }
+{
+    for item in items {
+        made.push(item.copy()?)?;
+    }
+    Ok(())
+}
+
 /// A list with one item more, which stands last.
 pub fn with_last<T: TryCopy + Drop>(
     alloc: Global,
@@ -72,9 +82,39 @@ pub fn with_last<T: TryCopy + Drop>(
     ensures { IfOk result (λ made. made ≡ items.now ++ last ∷ []) }
 {
     let mut made = List::new(alloc);
-    for item in items {
-        made.push(item.copy()?)?;
-    }
+    push_all(&mut made, items)?;
     made.push(last)?;
+    Ok(made)
+}
+
+/// A list without the item at a place, or all of it where there is no such place.
+pub fn without_place<T: TryCopy + Drop>(items: &List<T>, place: usize) -> Result<List<T>, NoMemory>
+    ensures { IfOk result (λ made. made ≡ remove items.now place) }
+{
+    if items.len() <= place {
+        return items.copy();
+    }
+    let mut made = List::new(items.alloc());
+    push_all(&mut made, &items.as_slice()[..place])?;
+    push_all(&mut made, &items.as_slice()[place + 1..])?;
+    Ok(made)
+}
+
+/// A list with another item at a place, or as it is where there is no such place.
+#[tactic(auto, using(std::proofs::lemmas::List::set_past, std::proofs::lemmas::List::set_split))]
+pub fn with_item<T: TryCopy + Drop>(
+    items: &List<T>,
+    place: usize,
+    item: T,
+) -> Result<List<T>, NoMemory>
+    ensures { IfOk result (λ made. made ≡ slice_set items.now place item) }
+{
+    if items.len() <= place {
+        return items.copy();
+    }
+    let mut made = List::new(items.alloc());
+    push_all(&mut made, &items.as_slice()[..place])?;
+    made.push(item)?;
+    push_all(&mut made, &items.as_slice()[place + 1..])?;
     Ok(made)
 }
