@@ -93,7 +93,7 @@ abbrev pub master_of : Plain → Option PInst → Option PModule
 master_of M inst = option_and_then (λ there. module_of M there.master) inst
 
 -- how many instances have the module as their master, in the whole table
-abbrev pub users : Plain → ModId → ℕ
+unfoldable pub users : Plain → ModId → ℕ
 users M m = sum_by (λ holder. count_by (λ inst. inst.master.0 == m.0) holder.insts) M.modules
 
 -- connections

@@ -1,15 +1,21 @@
-ghost use Rattle.std.specs.Prelude.{◌≡◌, ◌∷◌, [], ◌++◌, flat_map, IfOk, true, false};
+ghost use Rattle.std.specs.Prelude.{◌≡◌, ◌∷◌, [], ◌++◌, ◌&&◌, flat_map, IfOk, true, false};
+ghost use Rattle.flatten_rules.specs.Lookup.{module_of};
+ghost use Rattle.flatten_rules.specs.Domains.{is_leaf};
 ghost use Rattle.edit_rules.specs.Judged.{Looks};
+ghost use Rattle.edit_rules.specs.Readers.{inst_in, master_of};
 ghost use Rattle.edit_rules.specs.Insts.{delete_inst, delete_inst_rules, names_port, disconnect, disconnect_rules, rename_inst, rename_inst_rules, with_master, resize_rules, uniquify, uniquify_rules};
 
 use crate::changes::{Called, Joined, Master, NoInst};
 use crate::judged::{Judged, keep};
 use crate::modules::common;
 use crate::readers::{
-    is_inst, is_leaf, is_module, is_module_name, is_name_in, is_port, master_id, users,
+    has_one_user, is_inst, is_joined, is_leaf, is_leaf_inst, is_module, is_module_name, is_name_in,
+    is_port, master_id, master_of, place_at_inst, same_ports,
 };
-use crate::table::{with_inst, with_module};
-use emh_base::{Conn, InstId, ModId, Name, NetId, Object, Plain, Rule, State, TryCopy};
+use crate::table::{with_inst, with_last_module, with_module};
+use emh_base::{
+    Conn, InstId, ModId, Name, NetId, NoMemory, Object, PModule, Plain, Rule, State, TryCopy,
+};
 
 /// The table without an instance.
 pub fn delete_inst(state: &State, id: ModId, inst: InstId) -> Result<Plain, Judged>
@@ -62,4 +68,104 @@ fn names_port(state: &State, id: ModId, inst: InstId, port: NetId) -> Result<(),
         Object::Port(master, port),
         !is_port(plain, master, port),
     )
+}
+
+/// The table in which a connection is open.
+pub fn disconnect(state: &State, id: ModId, inst: InstId, port: NetId) -> Result<Plain, Judged>
+    ensures rules { Looks (disconnect_rules state.now id inst port) result }
+    ensures made { IfOk result (λ made. made ≡ disconnect state.now.plain id inst port) }
+{
+    let plain = &state.plain;
+    common(state, id)?;
+    names_port(state, id, inst, port)?;
+    let object = Object::Port(master_id(plain, id, inst), port);
+    keep(Rule::AlreadyOpen, object, !is_joined(plain, id, inst, port))?;
+    let place = place_at_inst(plain, id, inst, port);
+    let open = Joined {
+        place,
+        conn: Conn::Open,
+    };
+    Ok(with_inst(plain, id, inst, open)?)
+}
+
+/// The table in which an instance has another leaf as its master.
+pub fn resize(state: &State, id: ModId, inst: InstId, master: ModId) -> Result<Plain, Judged>
+    ensures rules { Looks (resize_rules state.now id inst master) result }
+    ensures made { IfOk result (λ made. made ≡ with_master state.now.plain id inst master) }
+{
+    let plain = &state.plain;
+    common(state, id)?;
+    let object = Object::Inst(id, inst);
+    keep(Rule::NoSuchInst, object, !is_inst(plain, id, inst))?;
+    keep(
+        Rule::NoSuchModule,
+        Object::Module(master),
+        !is_module(plain, master),
+    )?;
+    keep(Rule::NotLeaf, object, !are_leaves(plain, id, inst, master))?;
+    keep(
+        Rule::PortsDiffer,
+        Object::Module(master),
+        !same_ports(plain, id, inst, master),
+    )?;
+    Ok(with_inst(plain, id, inst, Master { master })?)
+}
+
+/// Whether an instance's master and another module are leaves.
+fn are_leaves(plain: &Plain, id: ModId, inst: InstId, other: ModId) -> bool
+    ensures { result ≡ (is_leaf (master_of plain.now (inst_in plain.now id inst)) && is_leaf (module_of plain.now other)) }
+{
+    if is_leaf_inst(plain, id, inst) {
+        is_leaf(plain, other)
+    } else {
+        false
+    }
+}
+
+/// The table in which an instance has a module of its own as its master, an unlocked copy of the one that it had.
+pub fn uniquify(state: &State, id: ModId, inst: InstId, name: &Name) -> Result<Plain, Judged>
+    ensures rules { Looks (uniquify_rules state.now id inst name.now) result }
+    ensures made { IfOk result (λ made. made ≡ uniquify state.now.plain id inst name.now) }
+{
+    let plain = &state.plain;
+    common(state, id)?;
+    keep(
+        Rule::NoSuchInst,
+        Object::Inst(id, inst),
+        !is_inst(plain, id, inst),
+    )?;
+    let master = master_id(plain, id, inst);
+    keep(Rule::IsCell, Object::Module(master), is_leaf(plain, master))?;
+    keep(
+        Rule::NotShared,
+        Object::Module(master),
+        has_one_user(plain, master),
+    )?;
+    keep(
+        Rule::NameTaken,
+        Object::NewName,
+        is_module_name(plain, name.as_bytes()),
+    )?;
+    keep(
+        Rule::TooManyObjects,
+        Object::NewName,
+        plain.next_module == u32::MAX,
+    )?;
+    let own = ModId(plain.next_module);
+    let inside = with_inst(plain, id, inst, Master { master: own })?;
+    match master_of(plain, id, inst) {
+        None => Ok(inside),
+        Some(old) => Ok(with_last_module(&inside, copy_of(old, own, name)?)?),
+    }
+}
+
+/// An unlocked copy of a module.
+fn copy_of(holder: &PModule, id: ModId, name: &Name) -> Result<PModule, NoMemory>
+    ensures { IfOk result (λ made. made ≡ record holder.now { id = id; name = name.now; locked = false }) }
+{
+    let mut made = holder.copy()?;
+    made.id = id;
+    made.name = name.copy()?;
+    made.locked = false;
+    Ok(made)
 }

@@ -9,6 +9,8 @@ mod modules;
 mod nets;
 mod readers;
 mod rewrite;
+mod settings;
+mod spots;
 mod table;
 
 pub use judged::{Judged, Need};

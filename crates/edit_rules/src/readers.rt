@@ -1,13 +1,15 @@
 //! What the rules look at in a table. Each is a plain pass over the list that it looks at.
 
-ghost use Rattle.std.specs.Prelude.{◌≡◌, ◌==◌, min, count_by, position, Some, bytes_eq};
+ghost use Rattle.std.specs.Prelude.{◌≡◌, ◌==◌, [], ◌∷◌, min, count_by, position, Some, bytes_eq};
 ghost use Rattle.std.specs.List.{list_any};
 ghost use Rattle.std.specs.Option.{option_copied};
-ghost use Rattle.flatten_rules.specs.Lookup.{module_of, net_of, port_of, inst_of};
+ghost use Rattle.flatten_rules.specs.Lookup.{module_of, net_of, port_of, inst_of, width};
 ghost use Rattle.flatten_rules.specs.Domains.{is_leaf};
-ghost use Rattle.edit_rules.specs.Readers.{is_module, is_locked, is_module_name, is_name_in, is_net, is_port, is_inst, net_in, port_in, inst_in, next_net_of, is_too_wide, users, master_id, port_place, is_connected, conn_at, uses_place, is_port_used, is_net_used, names_net, is_of_net};
+ghost use Rattle.edit_rules.specs.Readers.{is_module, is_locked, is_module_name, is_name_in, is_net, is_port, is_inst, net_in, port_in, inst_in, next_net_of, is_too_wide, users, master_id, port_place, is_connected, conn_at, uses_place, is_port_used, is_net_used, names_net, is_of_net, master_of, conn_of, same_ports, same_port, same_dir, same_net, same_range, is_buffer, are_buffer_ports, goes_through, is_bit};
 
-use emh_base::{Conn, InstId, List, ModId, NetId, PInst, PModule, PNet, PPort, Plain, Range, Src};
+use emh_base::{
+    Conn, Dir, InstId, List, ModId, NetId, PInst, PModule, PNet, PPort, Plain, Range, Src,
+};
 
 /// The module of that id.
 pub fn module_of(plain: &Plain, id: ModId) -> Option<&PModule>
@@ -183,6 +185,7 @@ pub fn is_too_wide(range: Option<Range>) -> bool
 }
 
 /// How many instances have a module as their master: none, one, or 2 for more.
+#[tactic(auto, unfolding(crate::specs::Readers::users))]
 pub fn users(plain: &Plain, id: ModId) -> usize
     ensures { result ≡ min (users plain.now id) 2 }
 {
@@ -191,6 +194,13 @@ pub fn users(plain: &Plain, id: ModId) -> usize
         found = (found + users_in(holder, id).min(2)).min(2);
     }
     found
+}
+
+/// Whether a module is the master of exactly one instance.
+pub fn has_one_user(plain: &Plain, id: ModId) -> bool
+    ensures { result ≡ (users plain.now id == 1) }
+{
+    users(plain, id) == 1
 }
 
 /// How many instances in a module have the other as their master.
@@ -329,5 +339,214 @@ fn is_of_net(source: Src, net: NetId) -> bool
         Src::Tie0 => false,
         Src::Tie1 => false,
         Src::Bit(other, _) => other.0 == net.0,
+    }
+}
+
+/// The master of an instance.
+pub fn master_of(plain: &Plain, id: ModId, inst: InstId) -> Option<&PModule>
+    ensures { option_copied result ≡ master_of plain.now (inst_in plain.now id inst) }
+{
+    match inst_in(plain, id, inst) {
+        None => None,
+        Some(there) => module_of(plain, there.master),
+    }
+}
+
+/// Whether an instance is one of a leaf.
+pub fn is_leaf_inst(plain: &Plain, id: ModId, inst: InstId) -> bool
+    ensures { result ≡ is_leaf (master_of plain.now (inst_in plain.now id inst)) }
+{
+    match master_of(plain, id, inst) {
+        None => false,
+        Some(master) => master.leaf,
+    }
+}
+
+/// The place of a port among those of an instance's master.
+pub fn place_at_inst(plain: &Plain, id: ModId, inst: InstId, port: NetId) -> Option<usize>
+    ensures { result ≡ port_place (master_of plain.now (inst_in plain.now id inst)) port }
+{
+    match master_of(plain, id, inst) {
+        None => None,
+        Some(master) => place_of_port(master, port),
+    }
+}
+
+/// Whether an instance is connected at a port of its master.
+pub fn is_joined(plain: &Plain, id: ModId, inst: InstId, port: NetId) -> bool
+    ensures { result ≡ is_connected (conn_of plain.now (inst_in plain.now id inst) port) }
+{
+    let place = place_at_inst(plain, id, inst, port);
+    match inst_in(plain, id, inst) {
+        None => false,
+        Some(there) => is_connected_at(&there.conns, place),
+    }
+}
+
+/// Whether the ports of an instance's master and of another module are as many, and alike one by one.
+pub fn same_ports(plain: &Plain, id: ModId, inst: InstId, other: ModId) -> bool
+    ensures { result ≡ same_ports (master_of plain.now (inst_in plain.now id inst)) (module_of plain.now other) }
+{
+    match master_of(plain, id, inst) {
+        None => false,
+        Some(master) => match module_of(plain, other) {
+            None => false,
+            Some(other) => same_ports_of(master, other),
+        },
+    }
+}
+
+fn same_ports_of(holder: &PModule, other: &PModule) -> bool
+    ensures { result ≡ same_ports (Some holder.now) (Some other.now) }
+{
+    if holder.ports.len() != other.ports.len() {
+        return false;
+    }
+    let ports = holder.ports.as_slice();
+    let others = other.ports.as_slice();
+    for place in 0..ports.len() {
+        if !same_port(holder, other, &ports[place], &others[place]) {
+            return false;
+        }
+    }
+    true
+}
+
+fn same_port(holder: &PModule, other: &PModule, port: &PPort, second: &PPort) -> bool
+    ensures { result ≡ same_port holder.now other.now port.now second.now }
+{
+    if same_dir(port.dir, second.dir) {
+        same_net(net_of(holder, port.net), net_of(other, second.net))
+    } else {
+        false
+    }
+}
+
+fn same_dir(a: Dir, b: Dir) -> bool
+    ensures { result ≡ same_dir a b }
+{
+    match a {
+        Dir::Input => match b {
+            Dir::Input => true,
+            Dir::Output => false,
+            Dir::Inout => false,
+        },
+        Dir::Output => match b {
+            Dir::Input => false,
+            Dir::Output => true,
+            Dir::Inout => false,
+        },
+        Dir::Inout => match b {
+            Dir::Input => false,
+            Dir::Output => false,
+            Dir::Inout => true,
+        },
+    }
+}
+
+fn same_net(a: Option<&PNet>, b: Option<&PNet>) -> bool
+    ensures { result ≡ same_net (option_copied a.entry) (option_copied b.entry) }
+{
+    match a {
+        None => b.is_none(),
+        Some(a) => match b {
+            None => false,
+            Some(b) => same_shape(a, b),
+        },
+    }
+}
+
+fn same_shape(a: &PNet, b: &PNet) -> bool
+    ensures { result ≡ same_net (Some a.now) (Some b.now) }
+{
+    if a.name.as_bytes() != b.name.as_bytes() {
+        return false;
+    }
+    same_range(a.range, b.range)
+}
+
+fn same_range(a: Option<Range>, b: Option<Range>) -> bool
+    ensures { result ≡ same_range a b }
+{
+    match a {
+        None => match b {
+            None => true,
+            Some(_) => false,
+        },
+        Some(a) => match b {
+            None => false,
+            Some(b) => a.left == b.left && a.right == b.right,
+        },
+    }
+}
+
+/// Whether a module is a leaf of exactly two ports of one bit each, an input and an output.
+pub fn is_buffer(plain: &Plain, id: ModId) -> bool
+    ensures { result ≡ is_buffer (module_of plain.now id) }
+{
+    match module_of(plain, id) {
+        None => false,
+        Some(holder) => is_buffer_cell(holder),
+    }
+}
+
+fn is_buffer_cell(holder: &PModule) -> bool
+    ensures { result ≡ is_buffer (Some holder.now) }
+{
+    if !holder.leaf {
+        return false;
+    }
+    match holder.ports.as_slice() {
+        [a, b] => is_through(holder, *a, *b),
+        _ => false,
+    }
+}
+
+fn is_through(holder: &PModule, a: PPort, b: PPort) -> bool
+    ensures { result ≡ are_buffer_ports holder.now (a ∷ b ∷ []) }
+{
+    if !goes_through(a.dir, b.dir) {
+        return false;
+    }
+    if !is_bit(holder, a) {
+        return false;
+    }
+    is_bit(holder, b)
+}
+
+fn goes_through(a: Dir, b: Dir) -> bool
+    ensures { result ≡ goes_through a b }
+{
+    match a {
+        Dir::Input => match b {
+            Dir::Input => false,
+            Dir::Output => true,
+            Dir::Inout => false,
+        },
+        Dir::Output => match b {
+            Dir::Input => true,
+            Dir::Output => false,
+            Dir::Inout => false,
+        },
+        Dir::Inout => false,
+    }
+}
+
+/// Whether a port has one bit.
+fn is_bit(holder: &PModule, port: PPort) -> bool
+    ensures { result ≡ is_bit holder.now port }
+{
+    match net_of(holder, port.net) {
+        None => false,
+        Some(net) => is_one(net.range),
+    }
+}
+
+fn is_one(range: Option<Range>) -> bool
+    ensures { result ≡ (width range == 1) }
+{
+    match range {
+        None => true,
+        Some(range) => range.left == range.right,
     }
 }
