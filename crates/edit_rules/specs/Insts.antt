@@ -1,5 +1,5 @@
 -- The edits of instances: for each the rules in the order in which they are looked at, and the table after it.
-use Rattle.std.specs.Prelude.{ℕ, ◌+◌, ◌==◌, false, not, ◌&&◌, nat_le, List, [], ◌∷◌, ◌++◌, map, length, filter, flat_map, slice_set, Option, Some, None, is_none}
+use Rattle.std.specs.Prelude.{ℕ, ◌+◌, ◌==◌, false, not, ◌&&◌, nat_le, List, [], ◌∷◌, ◌++◌, map, length, filter, flat_map, slice_set, Option, Some, None}
 use Rattle.emh_base.specs.declared.ids.ModId.{ModId}
 use Rattle.emh_base.specs.declared.ids.NetId.{NetId}
 use Rattle.emh_base.specs.declared.ids.InstId.{InstId}
