@@ -1,1 +1,3 @@
 pub mod PathLemmas
+pub mod CheckLemmas
+pub mod TableLemmas

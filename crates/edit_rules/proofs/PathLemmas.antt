@@ -1,5 +1,5 @@
 -- The module at a path, step by step.
-use Rattle.std.proofs.Common.{◌≡◌, ℕ, ◌+◌, ◌<◌, ◌<◌, List, [], ◌∷◌, ◌++◌, length, get_or, take, reverse, Option, Some, option_and_then, AllPairs, refl, sym, ap, ◌∙◌, add-one}
+use Rattle.std.proofs.Common.{◌≡◌, ℕ, ◌+◌, ◌<◌, ◌==◌, List, [], ◌∷◌, ◌++◌, length, get_or, take, reverse, Option, Some, option_and_then, AllPairs, refl, sym, ap, ◌∙◌, add-one}
 use Rattle.std.proofs.Math.Seq.{take-suc}
 use Rattle.std.proofs.lemmas.List.{reverse-append}
 use Rattle.emh_base.specs.declared.ids.ModId.{ModId}
@@ -9,9 +9,9 @@ use Rattle.emh_base.specs.declared.plain.PModule.{PModule}
 use Rattle.emh_base.specs.declared.plain.Plain.{Plain}
 use Rattle.flatten_rules.specs.Lookup.{module_of, inst_of}
 use Rattle.flatten_rules.specs.Unfolding.{module_up}
-use Rattle.flatten_rules.specs.Sound.{IsSound}
-use Rattle.flatten_rules.proofs.Sound.{sound-module}
+use Rattle.flatten_rules.proofs.Sound.{All-find}
 use Rattle.flatten_rules.proofs.Walks.{up-own}
+use Rattle.edit_rules.specs.Order.{InOrder}
 use Rattle.edit_rules.specs.Readers.{master_of}
 
 -- the master of an instance of a module, where both are there
@@ -34,5 +34,6 @@ up-more M top steps i d within =
     ap (module_up M top) turned ∙ up-step M top (get_or steps i d) (reverse (take i steps))
 
 -- the instances of a module at a path are in order
-pub insts-rise : (M : Plain) (top : ModId) (up : List InstId) (m : PModule) → IsSound M → Some m ≡ module_up M top up → AllPairs (λ (a b : PInst). a.id.0 < b.id.0) m.insts
-insts-rise M top up m sound found = (sound-module M m.id m sound (up-own M top up m (sym found))).insts_rise
+pub insts-rise : (M : Plain) (top : ModId) (up : List InstId) (m : PModule) → InOrder M → Some m ≡ module_up M top up → AllPairs (λ (a b : PInst). a.id.0 < b.id.0) m.insts
+insts-rise M top up m order found =
+    All-find (λ (x : PModule). AllPairs (λ (a b : PInst). a.id.0 < b.id.0) x.insts) (λ x. x.id.0 == m.id.0) M.modules m order.insts (up-own M top up m (sym found))

@@ -89,11 +89,16 @@ source_rules S m (Bit net offset) =
     ∷ check BitOutOfRange (Net m net) (nat_le (width_of (net_in S.plain m net)) offset)
     ∷ []
 
+-- there are as many bits as the port has
+abbrev pub width_rules : State → ModId → InstId → NetId → ℕ → List Check
+width_rules S m inst port bits =
+    check WidthMismatch (Port (master_id (inst_in S.plain m inst)) port)
+    (not (bits == width_of (net_in S.plain (master_id (inst_in S.plain m inst)) port)))
+    ∷ []
+
 abbrev pub connect_rules : State → ModId → InstId → NetId → List Src → List Check
 connect_rules S m inst port bits =
-    let master = master_id (inst_in S.plain m inst) in
-    common S m ++ names_port S m inst port ++ flat_map (source_rules S m) bits
-    ++ check WidthMismatch (Port master port) (not (length bits == width_of (net_in S.plain master port))) ∷ []
+    common S m ++ names_port S m inst port ++ flat_map (source_rules S m) bits ++ width_rules S m inst port (length bits)
 
 -- Disconnect: the connection becomes Open
 

@@ -11,3 +11,4 @@ pub mod Apply
 pub mod Good
 pub mod Examples
 pub mod Judged
+pub mod Order

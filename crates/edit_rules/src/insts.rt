@@ -3,7 +3,8 @@ ghost use Rattle.flatten_rules.specs.Lookup.{module_of};
 ghost use Rattle.flatten_rules.specs.Domains.{is_leaf};
 ghost use Rattle.edit_rules.specs.Judged.{Looks};
 ghost use Rattle.edit_rules.specs.Readers.{inst_in, master_of};
-ghost use Rattle.edit_rules.specs.Insts.{delete_inst, delete_inst_rules, names_port, disconnect, disconnect_rules, rename_inst, rename_inst_rules, with_master, resize_rules, uniquify, uniquify_rules};
+ghost use Rattle.edit_rules.specs.Insts.{delete_inst, delete_inst_rules, names_port, disconnect, disconnect_rules, rename_inst, rename_inst_rules, with_master, resize_rules, uniquify, uniquify_rules, with_conn, connect, connect_rules, source_rules, width_rules};
+ghost use Rattle.flatten_rules.specs.Sound.{IsSound};
 
 use crate::changes::{Called, Joined, Master, NoInst};
 use crate::judged::{Judged, keep};
@@ -13,8 +14,10 @@ use crate::readers::{
     is_port, master_id, master_of, place_at_inst, same_ports,
 };
 use crate::table::{with_inst, with_last_module, with_module};
+use crate::width::{has_net, width_in};
 use emh_base::{
-    Conn, InstId, ModId, Name, NetId, NoMemory, Object, PModule, Plain, Rule, State, TryCopy,
+    Conn, InstId, List, ModId, Name, NetId, NoMemory, Object, PModule, Plain, Rule, Src, State,
+    TryCopy,
 };
 
 /// The table without an instance.
@@ -80,12 +83,7 @@ pub fn disconnect(state: &State, id: ModId, inst: InstId, port: NetId) -> Result
     names_port(state, id, inst, port)?;
     let object = Object::Port(master_id(plain, id, inst), port);
     keep(Rule::AlreadyOpen, object, !is_joined(plain, id, inst, port))?;
-    let place = place_at_inst(plain, id, inst, port);
-    let open = Joined {
-        place,
-        conn: Conn::Open,
-    };
-    Ok(with_inst(plain, id, inst, open)?)
+    Ok(with_conn(plain, id, inst, port, Conn::Open)?)
 }
 
 /// The table in which an instance has another leaf as its master.
@@ -168,4 +166,101 @@ fn copy_of(holder: &PModule, id: ModId, name: &Name) -> Result<PModule, NoMemory
     made.name = name.copy()?;
     made.locked = false;
     Ok(made)
+}
+
+/// The table in which a connection has these sources.
+pub fn connect(
+    state: &State,
+    id: ModId,
+    inst: InstId,
+    port: NetId,
+    bits: &List<Src>,
+) -> Result<Plain, Judged>
+    requires { IsSound state.now.plain }
+    ensures rules { Looks (connect_rules state.now id inst port bits.now) result }
+    ensures made { IfOk result (λ made. made ≡ connect state.now.plain id inst port bits.now) }
+{
+    look_connect(state, id, inst, port, bits)?;
+    let conn = Conn::Bits(bits.copy()?);
+    Ok(with_conn(&state.plain, id, inst, port, conn)?)
+}
+
+/// Looks at the rules of a Connect.
+fn look_connect(
+    state: &State,
+    id: ModId,
+    inst: InstId,
+    port: NetId,
+    bits: &List<Src>,
+) -> Result<(), Judged>
+    requires { IsSound state.now.plain }
+    ensures { Looks (connect_rules state.now id inst port bits.now) result }
+{
+    common(state, id)?;
+    names_port(state, id, inst, port)?;
+    sources(state, id, bits.as_slice())?;
+    look_width(state, id, inst, port, bits.len())
+}
+
+/// Looks whether a connection has as many sources as the port of the instance's master has bits.
+fn look_width(
+    state: &State,
+    id: ModId,
+    inst: InstId,
+    port: NetId,
+    bits: usize,
+) -> Result<(), Judged>
+    requires { IsSound state.now.plain }
+    ensures { Looks (width_rules state.now id inst port bits) result }
+{
+    let plain = &state.plain;
+    let master = master_id(plain, id, inst);
+    let width = width_in(plain, master, port);
+    keep(
+        Rule::WidthMismatch,
+        Object::Port(master, port),
+        bits != usize::from(width),
+    )
+}
+
+/// The table with another connection of an instance at a port of its master.
+fn with_conn(
+    plain: &Plain,
+    id: ModId,
+    inst: InstId,
+    port: NetId,
+    conn: Conn,
+) -> Result<Plain, NoMemory>
+    ensures { IfOk result (λ made. made ≡ with_conn plain.now id inst port conn) }
+{
+    let place = place_at_inst(plain, id, inst, port);
+    with_inst(plain, id, inst, Joined { place, conn })
+}
+
+/// Looks at the sources of a connection, in order.
+fn sources(state: &State, id: ModId, bits: &[Src]) -> Result<(), Judged>
+    requires { IsSound state.now.plain }
+    ensures { Looks (flat_map (source_rules state.now id) bits.now) result }
+{
+    for source in bits {
+        look_source(state, id, *source)?;
+    }
+    Ok(())
+}
+
+/// Looks at a source: its net is there, and has the bit.
+fn look_source(state: &State, id: ModId, source: Src) -> Result<(), Judged>
+    requires { IsSound state.now.plain }
+    ensures { Looks (source_rules state.now id source) result }
+{
+    match source {
+        Src::Tie0 => Ok(()),
+        Src::Tie1 => Ok(()),
+        Src::Bit(net, offset) => {
+            let object = Object::Net(id, net);
+            keep(Rule::NoSuchNet, object, !has_net(&state.plain, id, net))?;
+            let width = width_in(&state.plain, id, net);
+            keep(Rule::BitOutOfRange, object, width <= offset)
+        }
+    }
 }

@@ -12,6 +12,7 @@ mod rewrite;
 mod settings;
 mod spots;
 mod table;
+mod width;
 
 pub use judged::{Judged, Need};
 pub use laws::worked_edits;

@@ -2,7 +2,7 @@ ghost use Rattle.std.specs.Prelude.{◌≡◌, ◌<◌, AllPairs, IfOk};
 ghost use Rattle.std.specs.Option.{option_copied};
 ghost use Rattle.emh_base.specs.declared.plain.PModule.{PModule};
 ghost use Rattle.emh_base.specs.declared.plain.PInst.{PInst};
-ghost use Rattle.flatten_rules.specs.Sound.{IsSound};
+ghost use Rattle.edit_rules.specs.Order.{InOrder};
 ghost use Rattle.flatten_rules.specs.Lookup.{inst_of};
 ghost use Rattle.edit_rules.specs.Readers.{master_of};
 ghost use Rattle.edit_rules.specs.Judged.{Looks};
@@ -17,7 +17,7 @@ use flatten_rules::{find, module_of};
 
 /// The module at a path of the unfolding.
 pub fn module_at<'a>(plain: &'a Plain, top: ModId, path: &Path) -> Option<&'a PModule>
-    requires { IsSound plain.now }
+    requires { InOrder plain.now }
     ensures { option_copied result ≡ module_at plain.now top path.now }
 {
     let mut at = module_of(plain, top);
@@ -44,7 +44,7 @@ fn master_at<'a>(plain: &'a Plain, holder: &PModule, step: InstId) -> Option<&'a
 
 /// Whether a block instance is at a path.
 pub fn is_leaf_path(plain: &Plain, top: ModId, path: &Path) -> bool
-    requires { IsSound plain.now }
+    requires { InOrder plain.now }
     ensures { result ≡ is_leaf_path plain.now top path.now }
 {
     match module_at(plain, top, path) {
@@ -55,7 +55,7 @@ pub fn is_leaf_path(plain: &Plain, top: ModId, path: &Path) -> bool
 
 /// The placements at the paths where a block instance is.
 pub fn kept(plain: &Plain, top: ModId, places: &Places) -> Result<Places, NoMemory>
-    requires { IsSound plain.now }
+    requires { InOrder plain.now }
     ensures { IfOk result (λ made. made ≡ kept plain.now top places.now) }
 {
     let mut made = Places::new(plain.modules.alloc());
@@ -70,7 +70,7 @@ pub fn kept(plain: &Plain, top: ModId, places: &Places) -> Result<Places, NoMemo
 
 /// Looks at the rules of a Place.
 pub fn place(state: &State, path: &Path) -> Result<(), Judged>
-    requires sound { IsSound state.now.plain }
+    requires { InOrder state.now.plain }
     ensures { Looks (place_rules state.now path.now) result }
 {
     at_leaf(state, path)?;
@@ -83,7 +83,7 @@ pub fn place(state: &State, path: &Path) -> Result<(), Judged>
 
 /// Looks at the rules of an Unplace.
 pub fn unplace(state: &State, path: &Path) -> Result<(), Judged>
-    requires sound { IsSound state.now.plain }
+    requires { InOrder state.now.plain }
     ensures { Looks (unplace_rules state.now path.now) result }
 {
     at_leaf(state, path)?;
@@ -96,7 +96,7 @@ pub fn unplace(state: &State, path: &Path) -> Result<(), Judged>
 
 /// Looks at what is looked at where an edit names a block instance by its path.
 fn at_leaf(state: &State, path: &Path) -> Result<(), Judged>
-    requires sound { IsSound state.now.plain }
+    requires { InOrder state.now.plain }
     ensures { Looks (at_leaf state.now path.now) result }
 {
     match module_at(&state.plain, state.top, path) {
