@@ -1,6 +1,7 @@
 //! The twenty-one edits of a design: what each of them does, what refuses it, and which states they lead to.
 #![tactic(auto)]
 
+mod apply;
 mod changes;
 mod insts;
 mod judged;

@@ -5,7 +5,7 @@ ghost use Rattle.std.specs.List.{list_any};
 ghost use Rattle.std.specs.Option.{option_copied};
 ghost use Rattle.flatten_rules.specs.Lookup.{module_of, net_of, port_of, inst_of, width};
 ghost use Rattle.flatten_rules.specs.Domains.{is_leaf};
-ghost use Rattle.edit_rules.specs.Readers.{is_module, is_locked, is_module_name, is_name_in, is_net, is_port, is_inst, net_in, port_in, inst_in, next_net_of, is_too_wide, users, master_id, port_place, is_connected, conn_at, uses_place, is_port_used, is_net_used, names_net, is_of_net, master_of, conn_of, same_ports, same_port, same_dir, same_net, same_range, is_buffer, are_buffer_ports, goes_through, is_bit};
+ghost use Rattle.edit_rules.specs.Readers.{is_module, is_locked, is_module_name, is_name_in, is_net, is_port, is_inst, net_in, port_in, inst_in, next_net_of, next_inst_of, is_too_wide, users, master_id, port_place, is_connected, conn_at, uses_place, is_port_used, is_net_used, names_net, is_of_net, master_of, conn_of, same_ports, same_port, same_dir, same_net, same_range, is_buffer, are_buffer_ports, goes_through, is_bit};
 
 use emh_base::{
     Conn, Dir, InstId, List, ModId, NetId, PInst, PModule, PNet, PPort, Plain, Range, Src,
@@ -53,6 +53,16 @@ pub fn next_net(plain: &Plain, id: ModId) -> u32
     match module_of(plain, id) {
         None => 0,
         Some(holder) => holder.next_net,
+    }
+}
+
+/// The id that the next instance in a module gets; 0 where the module isn't there.
+pub fn next_inst(plain: &Plain, id: ModId) -> u32
+    ensures { result ≡ next_inst_of (module_of plain.now id) }
+{
+    match module_of(plain, id) {
+        None => 0,
+        Some(holder) => holder.next_inst,
     }
 }
 
