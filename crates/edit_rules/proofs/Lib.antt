@@ -1,3 +1,4 @@
 pub mod PathLemmas
 pub mod CheckLemmas
 pub mod TableLemmas
+pub mod ChangeLemmas

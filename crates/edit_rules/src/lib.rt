@@ -3,6 +3,7 @@
 
 mod apply;
 mod changes;
+mod create;
 mod insts;
 mod judged;
 mod laws;
