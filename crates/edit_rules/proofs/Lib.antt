@@ -2,3 +2,4 @@ pub mod PathLemmas
 pub mod CheckLemmas
 pub mod TableLemmas
 pub mod ChangeLemmas
+pub mod OrderLemmas

@@ -1,5 +1,6 @@
 ghost use Rattle.std.specs.Prelude.{◌≡◌, option_to_list, IfOk, OnOk, OnErr};
 ghost use Rattle.flatten_rules.specs.Lookup.{module_of};
+ghost use Rattle.flatten_rules.specs.Sound.{IsSound};
 ghost use Rattle.edit_rules.specs.Order.{InOrder};
 ghost use Rattle.edit_rules.specs.Readers.{next_net_of, next_inst_of, conns_of, conn_at, conn_of, inst_in};
 ghost use Rattle.edit_rules.specs.Spots.{kept};
@@ -15,7 +16,7 @@ use emh_base::{
 /// Makes a state the one after an edit, whose table is handed in, and tells the change. After want of memory the state
 /// is as before.
 pub fn carry_out(state: &mut State, edit: &Edit, table: Plain) -> Result<Change, NoMemory>
-    requires order { InOrder table }
+    requires sound { IsSound state.old.plain }
     requires made { table ≡ table_after state.old.plain edit.now }
     ensures ok { OnOk result (state.new ≡ after state.old edit.now) }
     ensures told { IfOk result (λ told. told ≡ change state.old By.User edit.now) }
