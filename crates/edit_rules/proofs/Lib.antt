@@ -1,0 +1,5 @@
+pub mod PathLemmas
+pub mod CheckLemmas
+pub mod TableLemmas
+pub mod ChangeLemmas
+pub mod OrderLemmas

@@ -1,0 +1,7 @@
+use Rattle.std.proofs.Common.{sym, subst}
+use Rattle.edit_rules.specs.Order.{InOrder}
+use Rattle.edit_rules.proofs.OrderLemmas.{order-after}
+use Rattle.edit_rules.proofs.apply.carry_out.Goals as goal
+
+pub places_after-requires : goal.places_after-requires
+places_after-requires c = subst InOrder (sym c.requires.made) (order-after c.args.state.now.plain c.args.edit.now c.requires.sound)

@@ -1,0 +1,14 @@
+pub mod Check
+pub mod Readers
+pub mod Limits
+pub mod Changes
+pub mod Modules
+pub mod Nets
+pub mod Insts
+pub mod Spots
+pub mod Settings
+pub mod Apply
+pub mod Good
+pub mod Examples
+pub mod Judged
+pub mod Order

@@ -1,0 +1,20 @@
+//! The twenty-one edits of a design: what each of them does, what refuses it, and which states they lead to.
+#![tactic(auto)]
+
+mod apply;
+mod changes;
+mod create;
+mod insts;
+mod judged;
+mod laws;
+mod modules;
+mod nets;
+mod readers;
+mod rewrite;
+mod settings;
+mod spots;
+mod table;
+mod width;
+
+pub use judged::{Judged, Need};
+pub use laws::worked_edits;
