@@ -21,3 +21,6 @@ mod same;
 
 pub use elaborate::elab;
 pub use fault::{ElabFault, ElabKind};
+
+#[cfg(test)]
+mod tests;
