@@ -3,3 +3,4 @@ pub mod CheckLemmas
 pub mod TableLemmas
 pub mod ChangeLemmas
 pub mod OrderLemmas
+pub mod CountLemmas

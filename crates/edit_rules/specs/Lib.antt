@@ -12,3 +12,4 @@ pub mod Good
 pub mod Examples
 pub mod Judged
 pub mod Order
+pub mod Count

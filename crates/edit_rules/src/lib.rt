@@ -3,6 +3,7 @@
 
 mod apply;
 mod changes;
+mod count;
 mod create;
 mod insts;
 mod judged;

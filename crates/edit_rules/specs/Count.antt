@@ -1,0 +1,22 @@
+-- How the modules of a table are counted, level by level.
+use Rattle.std.specs.Prelude.{ℕ, min, List, map, Option}
+use Rattle.emh_base.specs.declared.ids.ModId.{ModId}
+use Rattle.emh_base.specs.declared.plain.PModule.{PModule}
+use Rattle.emh_base.specs.declared.plain.Plain.{Plain}
+use Rattle.flatten_rules.specs.Lookup.{module_of}
+use Rattle.flatten_rules.specs.Extent.{total}
+
+-- what an occurrence of a module counts
+abbrev pub Weight : Type 0
+Weight = ModId → Option PModule → ℕ
+
+abbrev pub weight_in : Weight → Plain → ModId → ℕ
+weight_in weight M m = weight m (module_of M m)
+
+-- what an occurrence of a module counts with all below it, down to that many levels; it stops at the limit plus one
+abbrev pub counted : Weight → Plain → ℕ → ModId → ℕ
+counted weight M levels m = min (total (weight_in weight M) M m levels) 4000001
+
+-- these numbers, for each module of the table
+abbrev pub level_of : Weight → Plain → ℕ → List ℕ
+level_of weight M levels = map (λ (m : PModule). counted weight M levels m.id) M.modules

@@ -1,0 +1,142 @@
+//! Occurrences are counted once a module, level by level: what a module counts down to one level more is told by what
+//! the masters of its instances count.
+
+ghost use Rattle.std.specs.Prelude.{◌≡◌, ℕ, ◌+◌, ◌<◌, ◌≤◌, None, Some, min, map, sum_by, AllPairs, IfOk};
+ghost use Rattle.emh_base.specs.declared.plain.PInst.{PInst};
+ghost use Rattle.emh_base.specs.declared.plain.PModule.{PModule};
+ghost use Rattle.flatten_rules.specs.Lookup.{module_of};
+ghost use Rattle.flatten_rules.specs.Extent.{total};
+ghost use Rattle.edit_rules.specs.Count.{weight_in, counted, level_of};
+
+use emh_base::{List, ModId, NoMemory, PInst, PModule, Plain};
+use flatten_rules::place_of_module;
+
+/// Numbers stop here: the greatest limit plus one.
+const STOP: u64 = 4_000_001;
+
+/// What each occurrence of a module counts.
+pub trait Measure {
+    ghost use Rattle.emh_base.specs.declared.ids.ModId.{ModId};
+    ghost use Rattle.emh_base.specs.declared.plain.PModule.{PModule};
+    ghost use Rattle.std.specs.Prelude.{Option};
+
+    ghost weight: { Self → ModId → Option PModule → ℕ };
+
+    /// What an occurrence of a module counts; it stops at the limit plus one.
+    fn number(&self, holder: &PModule) -> u64
+        ensures { result ≡ min (weight self.now holder.now.id (Some holder.now)) 4000001 };
+
+    /// What an occurrence of a module counts that isn't there.
+    fn absent(&self, id: ModId) -> u64
+        ensures { result ≡ min (weight self.now id None) 4000001 };
+}
+
+/// What an occurrence of a module counts with all below it, down to the levels of the list.
+fn value_at<X: Measure>(plain: &Plain, measure: &X, level: &[u64], levels: u64, id: ModId) -> u64
+    requires rise { AllPairs (λ (a b : PModule). a.id.0 < b.id.0) plain.now.modules }
+    requires known { level.now ≡ level_of (X.weight measure.now) plain.now levels }
+    ensures { result ≡ counted (X.weight measure.now) plain.now levels id }
+{
+    match place_of_module(plain, id) {
+        Some(place) => level[place],
+        None => {
+            if levels == 0 {
+                return 0;
+            }
+            measure.absent(id)
+        }
+    }
+}
+
+/// What the masters of some instances count together.
+fn sum_below<X: Measure>(
+    plain: &Plain,
+    measure: &X,
+    level: &[u64],
+    levels: u64,
+    insts: &[PInst],
+) -> u64
+    requires rise { AllPairs (λ (a b : PModule). a.id.0 < b.id.0) plain.now.modules }
+    requires known { level.now ≡ level_of (X.weight measure.now) plain.now levels }
+    ensures { result ≡ min (sum_by (λ (inst : PInst). total (weight_in (X.weight measure.now) plain.now) plain.now inst.master levels) insts.now) 4000001 }
+{
+    let mut sum = 0;
+    for inst in insts {
+        sum = (sum + value_at(plain, measure, level, levels, inst.master)).min(STOP);
+    }
+    sum
+}
+
+/// What an occurrence of a module counts down to one level more.
+fn above<X: Measure>(
+    plain: &Plain,
+    measure: &X,
+    level: &[u64],
+    levels: u64,
+    holder: &PModule,
+) -> u64
+    requires rise { AllPairs (λ (a b : PModule). a.id.0 < b.id.0) plain.now.modules }
+    requires known { level.now ≡ level_of (X.weight measure.now) plain.now levels }
+    requires there { module_of plain.now holder.now.id ≡ Some holder.now }
+    ensures { result ≡ counted (X.weight measure.now) plain.now (levels + 1) holder.now.id }
+{
+    let below = sum_below(plain, measure, level, levels, holder.insts.as_slice());
+    (measure.number(holder) + below).min(STOP)
+}
+
+/// The numbers of the modules down to one level more.
+fn next_level<X: Measure>(
+    plain: &Plain,
+    measure: &X,
+    level: &[u64],
+    levels: u64,
+) -> Result<List<u64>, NoMemory>
+    requires rise { AllPairs (λ (a b : PModule). a.id.0 < b.id.0) plain.now.modules }
+    requires known { level.now ≡ level_of (X.weight measure.now) plain.now levels }
+    ensures { IfOk result (λ made. made ≡ level_of (X.weight measure.now) plain.now (levels + 1)) }
+{
+    let mut made = List::new(plain.modules.alloc());
+    for holder in plain.modules.as_slice() {
+        made.push(above(plain, measure, level, levels, holder))?;
+    }
+    Ok(made)
+}
+
+/// What each module counts with all below it, down to the last level that matters.
+fn last_level<X: Measure>(plain: &Plain, measure: &X) -> Result<List<u64>, NoMemory>
+    requires rise { AllPairs (λ (a b : PModule). a.id.0 < b.id.0) plain.now.modules }
+    ensures { IfOk result (λ made. made ≡ level_of (X.weight measure.now) plain.now 257) }
+{
+    let mut level = no_level(plain)?;
+    for levels in 0..257 {
+        level = next_level(plain, measure, level.as_slice(), levels)?;
+    }
+    Ok(level)
+}
+
+/// What each module counts down to no level.
+fn no_level(plain: &Plain) -> Result<List<u64>, NoMemory>
+    ensures { IfOk result (λ made. made ≡ map (λ (m : PModule). 0) plain.now.modules) }
+{
+    let mut made = List::new(plain.modules.alloc());
+    for holder in plain.modules.as_slice() {
+        made.push(nothing(holder))?;
+    }
+    Ok(made)
+}
+
+/// What a module counts down to no level.
+fn nothing(_: &PModule) -> u64
+    ensures { result ≡ 0 }
+{
+    0
+}
+
+/// What an occurrence of a module counts with all below it.
+pub fn count<X: Measure>(plain: &Plain, measure: &X, top: ModId) -> Result<u64, NoMemory>
+    requires rise { AllPairs (λ (a b : PModule). a.id.0 < b.id.0) plain.now.modules }
+    ensures { IfOk result (λ number. number ≡ counted (X.weight measure.now) plain.now 257 top) }
+{
+    let level = last_level(plain, measure)?;
+    Ok(value_at(plain, measure, level.as_slice(), 257, top))
+}
