@@ -18,25 +18,25 @@ use Rattle.vlog_elab.proofs.Knowing.{there-faces, added-more}
 
 pub own-is : (es : Named Face) (k n : ℕ) (own : Face) (e : List ℕ × Face) → Some own ≡ option_map (λ e. e.1) (slice_get es k) → k ≡ n → slice_get es n ≡ Some e → own ≡ e.1
 own-is es k n own e h same is =
-  let f : Some own ≡ Some e.1 = h ∙ (rw (same, is) refl) in
-  cc
+    let f : Some own ≡ Some e.1 = h ∙ (rw (same, is) refl) in
+    cc
 
 -- the faces before a module, and those from it on
 faces-parted : (M : Plain) (all_leaf : Bool) (before : List TModule) (m : TModule) (rest : List TModule) → faces M all_leaf (before ++ m ∷ rest)
     ≡ faces M all_leaf before ++ numbered (face all_leaf) (M.next_module + length (added M before))
     ((if has_module M before m.name.name then [] else m ∷ []) ++ each_after (λ before (m : TModule). if has_module M before m.name.name then [] else m ∷ []) (before ++ m ∷ []) rest)
 faces-parted M all_leaf before m rest =
-  let later : List TModule = each_after (λ before (m : TModule). if has_module M before m.name.name then [] else m ∷ []) before (m ∷ rest) in
-  ap (λ new. map row_face M.modules ++ numbered (face all_leaf) M.next_module new)
+    let later : List TModule = each_after (λ before (m : TModule). if has_module M before m.name.name then [] else m ∷ []) before (m ∷ rest) in
+    ap (λ new. map row_face M.modules ++ numbered (face all_leaf) M.next_module new)
     (each_after-append (λ before (m : TModule). if has_module M before m.name.name then [] else m ∷ []) [] before (m ∷ rest))
-  ∙ ap (λ es. map row_face M.modules ++ es) (numbered-append (face all_leaf) M.next_module (added M before) later)
-  ∙ sym (append_assoc (map row_face M.modules) (numbered (face all_leaf) M.next_module (added M before)) (numbered (face all_leaf) (M.next_module + length (added M before)) later))
+    ∙ ap (λ es. map row_face M.modules ++ es) (numbered-append (face all_leaf) M.next_module (added M before) later)
+    ∙ sym (append_assoc (map row_face M.modules) (numbered (face all_leaf) M.next_module (added M before)) (numbered (face all_leaf) (M.next_module + length (added M before)) later))
 
 length-faces : (M : Plain) (all_leaf : Bool) (ms : List TModule) → length (faces M all_leaf ms) ≡ length M.modules + length (added M ms)
 length-faces M all_leaf ms =
-  length-append (map row_face M.modules) (numbered (face all_leaf) M.next_module (added M ms))
-  ∙ ap (λ n. n + length (numbered (face all_leaf) M.next_module (added M ms))) (simp length-map)
-  ∙ ap (λ n. length M.modules + n) (length-numbered (face all_leaf) M.next_module (added M ms))
+    length-append (map row_face M.modules) (numbered (face all_leaf) M.next_module (added M ms))
+    ∙ ap (λ n. n + length (numbered (face all_leaf) M.next_module (added M ms))) (simp length-map)
+    ∙ ap (λ n. length M.modules + n) (length-numbered (face all_leaf) M.next_module (added M ms))
 
 -- A module of a text, after which so many modules are in the table: its name is there already, and nothing is added; or its
 -- face is the next, and it is added.
@@ -51,38 +51,45 @@ is_added M all_leaf ms fs i m count within here faces_are counted = at_h (has_mo
   where
     before : List TModule
     before = take i ms
+
     later : List TModule
     later = each_after (λ before (m : TModule). if has_module M before m.name.name then [] else m ∷ []) (before ++ m ∷ []) (drop (i + 1) ms)
+
     id : ℕ
     id = M.next_module + length (added M before)
+
     parts : fs ≡ faces M all_leaf before ++ numbered (face all_leaf) id ((if has_module M before m.name.name then [] else m ∷ []) ++ later)
     parts = faces_are ∙ ap (faces M all_leaf) (parted ms i m within here) ∙ faces-parted M all_leaf before m (drop (i + 1) ms)
+
     len : count ≡ length (faces M all_leaf before)
     len = counted ∙ sym (length-faces M all_leaf before)
+
     next : added M (take (i + 1) ms) ≡ added M before ++ (if has_module M before m.name.name then [] else m ∷ [])
     next = ap (added M) (one_more ms i m within here) ∙ added-more M before m
+
     all : added M ms ≡ added M before ++ ((if has_module M before m.name.name then [] else m ∷ []) ++ later)
     all = ap (added M) (parted ms i m within here)
-      ∙ each_after-append (λ before (m : TModule). if has_module M before m.name.name then [] else m ∷ []) [] before (m ∷ drop (i + 1) ms)
+        ∙ each_after-append (λ before (m : TModule). if has_module M before m.name.name then [] else m ∷ []) [] before (m ∷ drop (i + 1) ms)
+
     at_h : (h : Bool) → has_module M before m.name.name ≡ h → IsAdded M all_leaf ms fs i m count
     at_h true h =
-      let there : is_there (faces M all_leaf before) m.name.name ≡ true = there-faces M all_leaf before m.name.name ∙ h in
-      let others : Named Face = numbered (face all_leaf) id ((if has_module M before m.name.name then [] else m ∷ []) ++ later) in
-      let place : place_of fs m.name.name ≡ place_of (faces M all_leaf before) m.name.name
+        let there : is_there (faces M all_leaf before) m.name.name ≡ true = there-faces M all_leaf before m.name.name ∙ h in
+        let others : Named Face = numbered (face all_leaf) id ((if has_module M before m.name.name then [] else m ∷ []) ++ later) in
+        let place : place_of fs m.name.name ≡ place_of (faces M all_leaf before) m.name.name
         = ap (λ es. place_of es m.name.name) parts ∙ place-there (faces M all_leaf before) others m.name.name there in
-      again
-      (λ at. let below : count < length (faces M all_leaf before) = place-below (faces M all_leaf before) m.name.name count (sym place ∙ at) in omega (arith, len))
-      (next ∙ ap (λ (h : Bool). added M before ++ cond h [] (m ∷ [])) h ∙ append-nil (added M before))
+        again
+        (λ at. let below : count < length (faces M all_leaf before) = place-below (faces M all_leaf before) m.name.name count (sym place ∙ at) in omega (arith, len))
+        (next ∙ ap (λ (h : Bool). added M before ++ cond h [] (m ∷ [])) h ∙ append-nil (added M before))
     at_h false h =
-      let fresh : is_there (faces M all_leaf before) m.name.name ≡ false = there-faces M all_leaf before m.name.name ∙ h in
-      let others : Named Face = numbered (face all_leaf) (id + 1) later in
-      let here : fs ≡ faces M all_leaf before ++ face all_leaf id m ∷ others
+        let fresh : is_there (faces M all_leaf before) m.name.name ≡ false = there-faces M all_leaf before m.name.name ∙ h in
+        let others : Named Face = numbered (face all_leaf) (id + 1) later in
+        let here : fs ≡ faces M all_leaf before ++ face all_leaf id m ∷ others
         = parts ∙ ap (λ (h : Bool). faces M all_leaf before ++ numbered (face all_leaf) id (cond h [] (m ∷ []) ++ later)) h in
-      new
-      (ap (λ es. place_of es m.name.name) here ∙ place-new (faces M all_leaf before) others (face all_leaf id m) fresh ∙ ap Some (sym len))
-      (ap (slice_get fs) len ∙ ap (λ es. slice_get es (length (faces M all_leaf before))) here ∙ item-after (faces M all_leaf before) others (face all_leaf id m))
-      (next ∙ ap (λ (h : Bool). added M before ++ cond h [] (m ∷ [])) h)
-      (ap (λ ms. slice_get ms (length (added M before))) (all ∙ ap (λ (h : Bool). added M before ++ (cond h [] (m ∷ []) ++ later)) h) ∙ item-after (added M before) later m)
+        new
+        (ap (λ es. place_of es m.name.name) here ∙ place-new (faces M all_leaf before) others (face all_leaf id m) fresh ∙ ap Some (sym len))
+        (ap (slice_get fs) len ∙ ap (λ es. slice_get es (length (faces M all_leaf before))) here ∙ item-after (faces M all_leaf before) others (face all_leaf id m))
+        (next ∙ ap (λ (h : Bool). added M before ++ cond h [] (m ∷ [])) h)
+        (ap (λ ms. slice_get ms (length (added M before))) (all ∙ ap (λ (h : Bool). added M before ++ (cond h [] (m ∷ []) ++ later)) h) ∙ item-after (added M before) later m)
 
 -- one module more: its row goes last where it is added, and else nothing changes
 pub grown : (M : Plain) (all_leaf : Bool) (ms : List TModule) (fs : Named Face) (i : ℕ) (m : TModule) (rows more : List PModule) → i < length ms → m ≡ get_or ms i m
@@ -94,16 +101,18 @@ grown M all_leaf ms fs i m rows more within here faces_are so_far if_again if_ne
   where
     before : List TModule
     before = take i ms
+
     len : length rows ≡ length M.modules + length (added M before)
     len = ap length so_far ∙ length-append M.modules (numbered (row fs all_leaf) M.next_module (added M before))
-      ∙ ap (λ n. length M.modules + n) (length-numbered (row fs all_leaf) M.next_module (added M before))
+        ∙ ap (λ n. length M.modules + n) (length-numbered (row fs all_leaf) M.next_module (added M before))
+
     at_m : IsAdded M all_leaf ms fs i m (length rows) → more ≡ M.modules ++ numbered (row fs all_leaf) M.next_module (added M (take (i + 1) ms))
     at_m (again other same) = if_again other ∙ so_far ∙ ap (λ new. M.modules ++ numbered (row fs all_leaf) M.next_module new) (sym same)
     at_m (new at is one all) =
-      if_new all_leaf (M.next_module + length (added M before)) at is
-      ∙ ap (λ rows. rows ++ row fs all_leaf (M.next_module + length (added M before)) m ∷ []) so_far
-      ∙ append_assoc M.modules (numbered (row fs all_leaf) M.next_module (added M before)) (row fs all_leaf (M.next_module + length (added M before)) m ∷ [])
-      ∙ ap (λ rows. M.modules ++ rows) (sym (ap (numbered (row fs all_leaf) M.next_module) one ∙ numbered-push (row fs all_leaf) M.next_module (added M before) m))
+        if_new all_leaf (M.next_module + length (added M before)) at is
+        ∙ ap (λ rows. rows ++ row fs all_leaf (M.next_module + length (added M before)) m ∷ []) so_far
+        ∙ append_assoc M.modules (numbered (row fs all_leaf) M.next_module (added M before)) (row fs all_leaf (M.next_module + length (added M before)) m ∷ [])
+        ∙ ap (λ rows. M.modules ++ rows) (sym (ap (numbered (row fs all_leaf) M.next_module) one ∙ numbered-push (row fs all_leaf) M.next_module (added M before) m))
 
 -- Counting the modules that are added.
 
@@ -125,5 +134,5 @@ count-new M all_leaf ms fs i m count within here faces_are counted at = at_m (is
         → (count + 1 ≡ length M.modules + length (added M (take (i + 1) ms))) × (slice_get (added M ms) (length (added M (take i ms))) ≡ Some m)
     at_m (again other same) = absurd (other at)
     at_m (new h is one all) =
-      let more : length (added M (take (i + 1) ms)) ≡ length (added M (take i ms)) + 1 = ap length one ∙ (rw (length-append (added M (take i ms)) (m ∷ [])) (grind arith)) in
-      (omega (arith, more, counted), all)
+        let more : length (added M (take (i + 1) ms)) ≡ length (added M (take i ms)) + 1 = ap length one ∙ (rw (length-append (added M (take i ms)) (m ∷ [])) (grind arith)) in
+        (omega (arith, more, counted), all)

@@ -26,10 +26,10 @@ pub made-is : (M : Plain) (all_leaf : Bool) (tree : Tree) (k : Known) (ms : List
     → rows ≡ M.modules ++ numbered (row k.faces all_leaf) M.next_module (added M ms) → record { modules = rows; next_module = k.next_module } ≡ built M all_leaf tree
 unfolding built
 made-is M all_leaf tree k ms rows same is made =
-  let e : rows ≡ M.modules ++ numbered (row (faces M all_leaf tree.modules) all_leaf) M.next_module (added M tree.modules)
+    let e : rows ≡ M.modules ++ numbered (row (faces M all_leaf tree.modules) all_leaf) M.next_module (added M tree.modules)
     = made ∙ ap (λ (k : Known). M.modules ++ numbered (row k.faces all_leaf) M.next_module (added M ms)) is
     ∙ ap (λ ms. M.modules ++ numbered (row (faces M all_leaf tree.modules) all_leaf) M.next_module (added M ms)) same in
-  rw (e, is) refl
+    rw (e, is) refl
 
 -- a place that holds a module is one of the table's, or of a module that is added
 pub place-within : (M : Plain) (all_leaf : Bool) (fs : Named Face) (ms : List TModule) (rows : List PModule) (P : PModule → Type 0) (place : ℕ)
@@ -38,7 +38,8 @@ place-within M all_leaf fs ms rows P place made h = at_o (slice_get rows place) 
   where
     len : length rows ≡ length M.modules + length (added M ms)
     len = ap length made ∙ length-append M.modules (numbered (row fs all_leaf) M.next_module (added M ms))
-      ∙ ap (λ n. length M.modules + n) (length-numbered (row fs all_leaf) M.next_module (added M ms))
+        ∙ ap (λ n. length M.modules + n) (length-numbered (row fs all_leaf) M.next_module (added M ms))
+
     at_o : (o : Option PModule) → slice_get rows place ≡ o → IsSomeAnd o P → place < length M.modules + length (added M ms)
     at_o None e h = absurd h
     at_o (Some m) e h = let below : place < length rows = slice_get_within rows place m e in omega (arith, below, len)
@@ -57,12 +58,14 @@ fault-of_cycle M all_leaf tree place e passed on_cycle within says = at_o (slice
   where
     k : ℕ
     k = place - length M.modules
+
     here : place ≡ length M.modules + k
     here = let after : length M.modules ≤ place = on_cycle.0 in omega arith
+
     at_o : (o : Option TModule) → slice_get (added M tree.modules) k ≡ o → UnlessNoMemory (HasFault M all_leaf tree) e
     at_o None h =
-      let below : k < length (added M tree.modules) = omega (arith, here, within) in
-      absurd (no_item (added M tree.modules) k below h)
+        let below : k < length (added M tree.modules) = omega (arith, here, within) in
+        absurd (no_item (added M tree.modules) k below h)
       where
         no_item : (ms : List TModule) (k : ℕ) → k < length ms → slice_get ms k ≡ None → ⊥
         no_item [] k h e = omega arith

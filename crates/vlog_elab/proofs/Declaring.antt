@@ -22,8 +22,8 @@ names-more before n = map-append (λ (n : At). let e : List ℕ × Unit {0} = (n
 
 said-more : (leaf : Bool) (header : Named (Unit {0})) (before : List Place) (p : Place) → said (before ++ p ∷ []) ≡ after_place (said before) p
 said-more leaf header before p =
-  ap (λ ds. record { directions = ds; wires = flat_map wire_at (before ++ p ∷ []) }) (flat_map-push direction_at before p)
-  ∙ ap (λ ws. record { directions = flat_map direction_at before ++ direction_at p; wires = ws }) (flat_map-push wire_at before p)
+    ap (λ ds. record { directions = ds; wires = flat_map wire_at (before ++ p ∷ []) }) (flat_map-push direction_at before p)
+    ∙ ap (λ ws. record { directions = flat_map direction_at before ++ direction_at p; wires = ws }) (flat_map-push wire_at before p)
 
 -- the checks of the header, by its walk
 pub header_checks-walk : (ns : List At) → first (each_after (λ before n. header_checks (just_names before) n) [] ns) ≡ first_fault header_walk [] ns
@@ -44,8 +44,8 @@ said-walk leaf header ps = known-at_end (place_walk leaf header) said (said-more
 pub direction_checks-walk : (dirs : Named Port) (s : Named Port) (ns : List At) → first (map (direction_check dirs) ns) ≡ first_fault (port_walk dirs) s ns
 direction_checks-walk dirs s [] = refl
 direction_checks-walk dirs s (n ∷ ns) =
-  first-append (direction_check dirs n ∷ []) (map (direction_check dirs) ns)
-  ∙ ap (or_else (first (direction_check dirs n ∷ []))) (direction_checks-walk dirs (s ++ port_of dirs n ∷ []) ns)
+    first-append (direction_check dirs n ∷ []) (map (direction_check dirs) ns)
+    ∙ ap (or_else (first (direction_check dirs n ∷ []))) (direction_checks-walk dirs (s ++ port_of dirs n ∷ []) ns)
 
 pub ports-walk : (dirs : Named Port) (s : Named Port) (ns : List At) → at_end (port_walk dirs) s ns ≡ s ++ map (port_of dirs) ns
 ports-walk dirs s [] = sym (append-nil s)
@@ -57,27 +57,27 @@ pub inside-walks : (leaf : Bool) (m : TModule) → first (inside_checks leaf m)
     (or_else (first_fault (place_walk leaf (just_names (header_names m.header))) (said []) (places m))
     (first_fault (port_walk (said (places m)).directions) [] (header_names m.header)))
 inside-walks leaf m =
-  let ns = header_names m.header in
-  let ks : List Check = each_after (λ before n. header_checks (just_names before) n) [] ns in
-  let bs : List Check = each_after (λ before p. place_checks leaf (just_names ns) (said before) p) [] (places m) in
-  let cs : List Check = map (direction_check (said (places m)).directions) ns in
-  first-append (ks ++ bs) cs
-  ∙ ap (λ o. or_else o (first cs)) (first-append ks bs)
-  ∙ or_else_assoc (first ks) (first bs) (first cs)
-  ∙ (rw (header_checks-walk ns, place_checks-walk leaf (just_names ns) (places m), direction_checks-walk (said (places m)).directions [] ns) refl)
+    let ns = header_names m.header in
+    let ks : List Check = each_after (λ before n. header_checks (just_names before) n) [] ns in
+    let bs : List Check = each_after (λ before p. place_checks leaf (just_names ns) (said before) p) [] (places m) in
+    let cs : List Check = map (direction_check (said (places m)).directions) ns in
+    first-append (ks ++ bs) cs
+    ∙ ap (λ o. or_else o (first cs)) (first-append ks bs)
+    ∙ or_else_assoc (first ks) (first bs) (first cs)
+    ∙ (rw (header_checks-walk ns, place_checks-walk leaf (just_names ns) (places m), direction_checks-walk (said (places m)).directions [] ns) refl)
 
 -- what the three walks give together
 
 pub names-fail : (leaf : Bool) (m : TModule) (e : ElabFault) → Fails header_walk [] (header_names m.header) e → Found (first (inside_checks leaf m)) e
 names-fail leaf m e q =
-  found-along _ _ e (inside-walks leaf m) (found-or _ _ e q.found)
+    found-along _ _ e (inside-walks leaf m) (found-or _ _ e q.found)
 
 pub places-fail : (leaf : Bool) (m : TModule) (names : Named (Unit {0})) (e : ElabFault) → Passed header_walk [] (header_names m.header) names
     → Fails (place_walk leaf names) (said []) (places m) e → Found (first (inside_checks leaf m)) e
 places-fail leaf m names e p q =
-  let same : names ≡ just_names (header_names m.header) = p.end ∙ sym (just_names-walk (header_names m.header)) in
-  let f : Found (first_fault (place_walk leaf (just_names (header_names m.header))) (said []) (places m)) e = rw (← same) q.found in
-  found-along _ _ e (inside-walks leaf m) (found-after _ _ e p.none (found-or _ _ e f))
+    let same : names ≡ just_names (header_names m.header) = p.end ∙ sym (just_names-walk (header_names m.header)) in
+    let f : Found (first_fault (place_walk leaf (just_names (header_names m.header))) (said []) (places m)) e = rw (← same) q.found in
+    found-along _ _ e (inside-walks leaf m) (found-after _ _ e p.none (found-or _ _ e f))
 
 pub ports-give : (leaf : Bool) (m : TModule) (names : Named (Unit {0})) (before : Said) (r : Result (Named Port) ElabFault)
     → Passed header_walk [] (header_names m.header) names → Passed (place_walk leaf names) (said []) (places m) before
@@ -87,36 +87,40 @@ ports-give leaf m names before r p q g = by_cases r g
   where
     same : names ≡ just_names (header_names m.header)
     same = p.end ∙ sym (just_names-walk (header_names m.header))
+
     said_all : before ≡ said (places m)
     said_all = q.end ∙ sym (said-walk leaf names (places m))
+
     none : first_fault (place_walk leaf (just_names (header_names m.header))) (said []) (places m) ≡ None
     none = rw (← same) q.none
+
     dirs : before.directions ≡ (said (places m)).directions
     dirs = ap (λ (s : Said). s.directions) said_all
+
     by_cases : (r : Result (Named Port) ElabFault) → Gives (port_walk before.directions) [] (header_names m.header) r
         → MatchResult r (λ made. (first (inside_checks leaf m) ≡ None) × (made ≡ ports m)) (Found (first (inside_checks leaf m)))
     by_cases (Ok made) g =
-      (inside-walks leaf m ∙ (rw (p.none, none, ← dirs) g.none), g.end ∙ ports-walk before.directions [] (header_names m.header) ∙ (rw dirs refl))
+        (inside-walks leaf m ∙ (rw (p.none, none, ← dirs) g.none), g.end ∙ ports-walk before.directions [] (header_names m.header) ∙ (rw dirs refl))
     by_cases (Err e) g =
-      let f : Found (first_fault (port_walk (said (places m)).directions) [] (header_names m.header)) e = rw (← dirs) g.found in
-      found-along _ _ e (inside-walks leaf m) (found-after _ _ e p.none (found-after _ _ e none f))
+        let f : Found (first_fault (port_walk (said (places m)).directions) [] (header_names m.header)) e = rw (← dirs) g.found in
+        found-along _ _ e (inside-walks leaf m) (found-after _ _ e p.none (found-after _ _ e none f))
 
 -- A module: its name, its header and declarations, and its entry.
 
 module-parts : (all_leaf : Bool) (k : Known) (m : TModule) → first (module_checks all_leaf k m)
     ≡ or_else (first (name_check (is_leaf all_leaf m) k m ∷ [])) (or_else (first (inside_checks (is_leaf all_leaf m) m)) (first (entry_checks k (ports m) m)))
 module-parts all_leaf k m =
-  let a : List Check = name_check (is_leaf all_leaf m) k m ∷ [] in
-  let b : List Check = inside_checks (is_leaf all_leaf m) m in
-  let e : List Check = entry_checks k (ports m) m in
-  first-append (a ++ b) e ∙ ap (λ o. or_else o (first e)) (first-append a b) ∙ or_else_assoc (first a) (first b) (first e)
+    let a : List Check = name_check (is_leaf all_leaf m) k m ∷ [] in
+    let b : List Check = inside_checks (is_leaf all_leaf m) m in
+    let e : List Check = entry_checks k (ports m) m in
+    first-append (a ++ b) e ∙ ap (λ o. or_else o (first e)) (first-append a b) ∙ or_else_assoc (first a) (first b) (first e)
 
 pub module-fails : (all_leaf : Bool) (k : Known) (m : TModule) (fault : ElabFault) → first (name_check (is_leaf all_leaf m) k m ∷ []) ≡ None
     → Found (first (inside_checks (is_leaf all_leaf m) m)) fault → Fails (module_walk all_leaf) k (m ∷ []) fault
 module-fails all_leaf k m fault named inside = record {
   found =
-    found-along _ _ fault (or_else-None (first (module_checks all_leaf k m)) ∙ module-parts all_leaf k m)
-    (found-after _ _ fault named (found-or _ _ fault inside));
+      found-along _ _ fault (or_else-None (first (module_checks all_leaf k m)) ∙ module-parts all_leaf k m)
+      (found-after _ _ fault named (found-or _ _ fault inside));
 }
 
 pub module-gives : {T : Type 0} (all_leaf : Bool) (k k' : Known) (m : TModule) (ps : Named Port) (r : Result T ElabFault)
@@ -128,6 +132,6 @@ module-gives all_leaf k k' m ps (Ok v) named inside same checks after = record {
 }
 module-gives all_leaf k k' m ps (Err fault) named inside same checks after = record {
   found =
-    found-along _ _ fault (or_else-None (first (module_checks all_leaf k m)) ∙ module-parts all_leaf k m)
-    (found-after _ _ fault named (found-after _ _ fault inside (rw (← same) checks)));
+      found-along _ _ fault (or_else-None (first (module_checks all_leaf k m)) ∙ module-parts all_leaf k m)
+      (found-after _ _ fault named (found-after _ _ fault inside (rw (← same) checks)));
 }

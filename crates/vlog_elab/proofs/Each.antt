@@ -41,34 +41,34 @@ pairs_tail R x xs h = λ i j d lt within. h (suc i) (suc j) d (omega arith) (ome
 pub pairs_append : {X : Type 0} (R : X → X → Type 0) (xs ys : List X) → AllPairs R xs → AllPairs R ys → All (λ x. All (R x) ys) xs → AllPairs R (xs ++ ys)
 pairs_append R [] ys p q across = q
 pairs_append R (x ∷ xs) ys p q across =
-  pairs_cons R x (xs ++ ys)
-  (All-append (R x) xs ys (pairs_head R x xs p) (all_head (λ x. All (R x) ys) x xs across))
-  (pairs_append R xs ys (pairs_tail R x xs p) q (all_tail (λ x. All (R x) ys) x xs across))
+    pairs_cons R x (xs ++ ys)
+    (All-append (R x) xs ys (pairs_head R x xs p) (all_head (λ x. All (R x) ys) x xs across))
+    (pairs_append R xs ys (pairs_tail R x xs p) q (all_tail (λ x. All (R x) ys) x xs across))
 
 -- Items that are numbered.
 
 pub numbered_from : {X Y : Type 0} (number : Y → ℕ) (make : ℕ → X → Y) → ((n : ℕ) (x : X) → number (make n x) ≡ n) → (n : ℕ) (xs : List X) → All (λ y. n ≤ number y) (numbered make n xs)
 numbered_from number make is n [] = all_none (λ y. n ≤ number y)
 numbered_from number make is n (x ∷ xs) =
-  let e : number (make n x) ≡ n = is n x in
-  all_cons (λ y. n ≤ number y) (make n x) (numbered make (n + 1) xs) (omega (arith, e))
-  (all_weaker (λ y. n + 1 ≤ number y) (λ y. n ≤ number y) (numbered make (n + 1) xs) (λ y h. omega (arith, h)) (numbered_from number make is (n + 1) xs))
+    let e : number (make n x) ≡ n = is n x in
+    all_cons (λ y. n ≤ number y) (make n x) (numbered make (n + 1) xs) (omega (arith, e))
+    (all_weaker (λ y. n + 1 ≤ number y) (λ y. n ≤ number y) (numbered make (n + 1) xs) (λ y h. omega (arith, h)) (numbered_from number make is (n + 1) xs))
 
 pub numbered_below : {X Y : Type 0} (number : Y → ℕ) (make : ℕ → X → Y) → ((n : ℕ) (x : X) → number (make n x) ≡ n) → (n : ℕ) (xs : List X) → All (λ y. number y < n + length xs) (numbered make n xs)
 numbered_below number make is n [] = all_none (λ y. number y < n + 0)
 numbered_below number make is n (x ∷ xs) =
-  let e : number (make n x) ≡ n = is n x in
-  let len : n + 1 + length xs ≡ n + length (x ∷ xs) = grind arith in
-  all_cons (λ y. number y < n + length (x ∷ xs)) (make n x) (numbered make (n + 1) xs) (omega (arith, e, len))
-  (all_weaker (λ y. number y < n + 1 + length xs) (λ y. number y < n + length (x ∷ xs)) (numbered make (n + 1) xs) (λ y h. omega (arith, h, len)) (numbered_below number make is (n + 1) xs))
+    let e : number (make n x) ≡ n = is n x in
+    let len : n + 1 + length xs ≡ n + length (x ∷ xs) = grind arith in
+    all_cons (λ y. number y < n + length (x ∷ xs)) (make n x) (numbered make (n + 1) xs) (omega (arith, e, len))
+    (all_weaker (λ y. number y < n + 1 + length xs) (λ y. number y < n + length (x ∷ xs)) (numbered make (n + 1) xs) (λ y h. omega (arith, h, len)) (numbered_below number make is (n + 1) xs))
 
 pub numbered_rise : {X Y : Type 0} (number : Y → ℕ) (make : ℕ → X → Y) → ((n : ℕ) (x : X) → number (make n x) ≡ n) → (n : ℕ) (xs : List X) → AllPairs (λ a b. number a < number b) (numbered make n xs)
 numbered_rise number make is n [] = pairs_none (λ a b. number a < number b)
 numbered_rise number make is n (x ∷ xs) =
-  let e : number (make n x) ≡ n = is n x in
-  pairs_cons (λ a b. number a < number b) (make n x) (numbered make (n + 1) xs)
-  (all_weaker (λ y. n + 1 ≤ number y) (λ y. number (make n x) < number y) (numbered make (n + 1) xs) (λ y h. omega (arith, h, e)) (numbered_from number make is (n + 1) xs))
-  (numbered_rise number make is (n + 1) xs)
+    let e : number (make n x) ≡ n = is n x in
+    pairs_cons (λ a b. number a < number b) (make n x) (numbered make (n + 1) xs)
+    (all_weaker (λ y. n + 1 ≤ number y) (λ y. number (make n x) < number y) (numbered make (n + 1) xs) (λ y h. omega (arith, h, e)) (numbered_from number make is (n + 1) xs))
+    (numbered_rise number make is (n + 1) xs)
 
 -- what holds of each item that is made
 pub all_numbered : {X Y : Type 0} (P : Y → Type 0) (make : ℕ → X → Y) → ((n : ℕ) (x : X) → P (make n x)) → (n : ℕ) (xs : List X) → All P (numbered make n xs)
@@ -78,7 +78,7 @@ all_numbered P make f n (x ∷ xs) = all_cons P (make n x) (numbered make (n + 1
 pub all_numbered_of : {X Y : Type 0} (P : Y → Type 0) (Q : X → Type 0) (make : ℕ → X → Y) → ((n : ℕ) (x : X) → Q x → P (make n x)) → (n : ℕ) (xs : List X) → All Q xs → All P (numbered make n xs)
 all_numbered_of P Q make f n [] h = all_none P
 all_numbered_of P Q make f n (x ∷ xs) h =
-  all_cons P (make n x) (numbered make (n + 1) xs) (f n x (all_head Q x xs h)) (all_numbered_of P Q make f (n + 1) xs (all_tail Q x xs h))
+    all_cons P (make n x) (numbered make (n + 1) xs) (f n x (all_head Q x xs h)) (all_numbered_of P Q make f (n + 1) xs (all_tail Q x xs h))
 
 pub all_map_of : {X Y : Type 0} (P : Y → Type 0) (Q : X → Type 0) (make : X → Y) → ((x : X) → Q x → P (make x)) → (xs : List X) → All Q xs → All P (map make xs)
 all_map_of P Q make f [] h = all_none P

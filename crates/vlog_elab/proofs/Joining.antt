@@ -56,7 +56,7 @@ connects-pass s ports inst before c none = record {
 pub connects-fails : (s : Scope) (ports : Named Port) (inst : At) (before : List TConn) (c : TConn) (e : ElabFault) → Found (first (conn_checks ports inst before c c.port)) e
     → Fails step_walk s (conn_steps ports inst before c) e
 connects-fails s ports inst before c e f =
-  fails-before (map Uses c.parts ++ Fits ports before c ∷ []) (let q : Fails step_walk s (Connects ports inst before c ∷ []) e = record { found = found-along _ _ e (or_else-None (first (conn_checks ports inst before c c.port))) f } in q)
+    fails-before (map Uses c.parts ++ Fits ports before c ∷ []) (let q : Fails step_walk s (Connects ports inst before c ∷ []) e = record { found = found-along _ _ e (or_else-None (first (conn_checks ports inst before c c.port))) f } in q)
 
 pub uses-fail : (s : Scope) (ports : Named Port) (inst : At) (before : List TConn) (c : TConn) (e : ElabFault) → first (conn_checks ports inst before c c.port) ≡ None
     → Fails step_walk s (map Uses c.parts) e → Fails step_walk s (conn_steps ports inst before c) e
@@ -65,16 +65,16 @@ uses-fail s ports inst before c e none q = fails-then (connects-pass s ports ins
 pub conn-gives : {T : Type 0} (s t u : Scope) (ports : Named Port) (inst : At) (before : List TConn) (c : TConn) (r : Result T ElabFault) → first (conn_checks ports inst before c c.port) ≡ None
     → Passed step_walk s (map Uses c.parts) t → Walks step_walk t (Fits ports before c ∷ []) r u → Walks step_walk s (conn_steps ports inst before c) r u
 conn-gives s t u ports inst before c r none p q =
-  walks-then (map Uses c.parts ++ Fits ports before c ∷ []) r u (connects-pass s ports inst before c none)
-  (walks-then (Fits ports before c ∷ []) r u p q)
+    walks-then (map Uses c.parts ++ Fits ports before c ∷ []) r u (connects-pass s ports inst before c none)
+    (walks-then (Fits ports before c ∷ []) r u p q)
 
 -- What is met grows step by step.
 
 pub met-more : (before : List Step) (step : Step) → met (before ++ step ∷ []) ≡ after_step (met before) step
 met-more before step =
-  let ns : firsts (flat_map net_at (before ++ step ∷ [])) ≡ with_new (firsts (flat_map net_at before)) (net_at step)
+    let ns : firsts (flat_map net_at (before ++ step ∷ [])) ≡ with_new (firsts (flat_map net_at before)) (net_at step)
     = ap firsts (flat_map-push net_at before step) ∙ firsts-append (flat_map net_at before) (net_at step) in
-  rw (ns, flat_map-push inst_at before step) refl
+    rw (ns, flat_map-push inst_at before step) refl
 
 -- the checks of a module, by its walk
 pub inner_checks-walk : (faces : Named Face) (m : TModule) → first (inner_checks faces m) ≡ first_fault step_walk (record { nets = []; insts = [] }) (steps faces m)

@@ -30,8 +30,8 @@ any-one_or_not t false x xs = refl
 -- a name that is one module's more
 one_more_name : (M : Plain) (before : List TModule) (m : TModule) (q : List ℕ) → has_module M (before ++ m ∷ []) q ≡ (has_module M before q || bytes_eq q m.name.name)
 one_more_name M before m q =
-  ap (λ b. list_any (λ (m : PModule). bytes_eq q m.name) M.modules || b) (list_any-append (λ (m : TModule). bytes_eq q m.name.name) before (m ∷ []) ∙ ap (λ b. list_any (λ (m : TModule). bytes_eq q m.name.name) before || b) (or-false (bytes_eq q m.name.name)))
-  ∙ sym (or_assoc (list_any (λ (m : PModule). bytes_eq q m.name) M.modules) (list_any (λ (m : TModule). bytes_eq q m.name.name) before) (bytes_eq q m.name.name))
+    ap (λ b. list_any (λ (m : PModule). bytes_eq q m.name) M.modules || b) (list_any-append (λ (m : TModule). bytes_eq q m.name.name) before (m ∷ []) ∙ ap (λ b. list_any (λ (m : TModule). bytes_eq q m.name.name) before || b) (or-false (bytes_eq q m.name.name)))
+    ∙ sym (or_assoc (list_any (λ (m : PModule). bytes_eq q m.name) M.modules) (list_any (λ (m : TModule). bytes_eq q m.name.name) before) (bytes_eq q m.name.name))
 
 -- a name that the table or the modules have is found among the table's and the added ones
 among_added : (M : Plain) (before ms : List TModule) (q : List ℕ)
@@ -39,15 +39,15 @@ among_added : (M : Plain) (before ms : List TModule) (q : List ℕ)
     ≡ has_module M (before ++ ms) q
 among_added M before [] q = or-false (has_module M before q) ∙ ap (λ ms. has_module M ms q) (sym (append-nil before))
 among_added M before (m ∷ ms) q =
-  let test : TModule → Bool = λ m. bytes_eq q m.name.name in
-  let rest : List TModule = each_after (λ before (m : TModule). if has_module M before m.name.name then [] else m ∷ []) (before ++ m ∷ []) ms in
-  let known_before : has_module M before m.name.name ≡ true → bytes_eq q m.name.name ≡ true → has_module M before q ≡ true
+    let test : TModule → Bool = λ m. bytes_eq q m.name.name in
+    let rest : List TModule = each_after (λ before (m : TModule). if has_module M before m.name.name then [] else m ∷ []) (before ++ m ∷ []) ms in
+    let known_before : has_module M before m.name.name ≡ true → bytes_eq q m.name.name ≡ true → has_module M before q ≡ true
     = λ h e. let same : q ≡ m.name.name = same_name q m.name.name e in (rw same h) in
-  ap (λ b. has_module M before q || b) (any-one_or_not test (has_module M before m.name.name) m rest)
-  ∙ one_or_not (has_module M before q) (bytes_eq q m.name.name) (list_any test rest) (has_module M before m.name.name) known_before
-  ∙ ap (λ b. b || list_any test rest) (sym (one_more_name M before m q))
-  ∙ among_added M (before ++ m ∷ []) ms q
-  ∙ ap (λ ms. has_module M ms q) (append_assoc before (m ∷ []) ms)
+    ap (λ b. has_module M before q || b) (any-one_or_not test (has_module M before m.name.name) m rest)
+    ∙ one_or_not (has_module M before q) (bytes_eq q m.name.name) (list_any test rest) (has_module M before m.name.name) known_before
+    ∙ ap (λ b. b || list_any test rest) (sym (one_more_name M before m q))
+    ∙ among_added M (before ++ m ∷ []) ms q
+    ∙ ap (λ ms. has_module M ms q) (append_assoc before (m ∷ []) ms)
 
 -- the names of rows and of added modules, as they are found
 there-rows : (rows : List PModule) (es : Named Face) (q : List ℕ) → is_there (map row_face rows ++ es) q ≡ (list_any (λ (m : PModule). bytes_eq q m.name) rows || is_there es q)
@@ -61,16 +61,16 @@ there-added all_leaf n (m ∷ ms) q = elim (bytes_eq q m.name.name) as (λ b. is
 -- a name is among the faces where a module has it
 pub there-faces : (M : Plain) (all_leaf : Bool) (ms : List TModule) (q : List ℕ) → is_there (faces M all_leaf ms) q ≡ has_module M ms q
 there-faces M all_leaf ms q =
-  there-rows M.modules (numbered (face all_leaf) M.next_module (added M ms)) q
-  ∙ ap (λ b. list_any (λ (m : PModule). bytes_eq q m.name) M.modules || b) (there-added all_leaf M.next_module (added M ms) q)
-  ∙ ap (λ b. b || list_any (λ (m : TModule). bytes_eq q m.name.name) (added M ms)) (sym (or-false (list_any (λ (m : PModule). bytes_eq q m.name) M.modules)))
-  ∙ among_added M [] ms q
+    there-rows M.modules (numbered (face all_leaf) M.next_module (added M ms)) q
+    ∙ ap (λ b. list_any (λ (m : PModule). bytes_eq q m.name) M.modules || b) (there-added all_leaf M.next_module (added M ms) q)
+    ∙ ap (λ b. b || list_any (λ (m : TModule). bytes_eq q m.name.name) (added M ms)) (sym (or-false (list_any (λ (m : PModule). bytes_eq q m.name) M.modules)))
+    ∙ among_added M [] ms q
 
 -- one module more is added, or not
 pub added-more : (M : Plain) (before : List TModule) (m : TModule) → added M (before ++ m ∷ []) ≡ added M before ++ (if has_module M before m.name.name then [] else m ∷ [])
 added-more M before m =
-  each_after-append (λ before (m : TModule). if has_module M before m.name.name then [] else m ∷ []) [] before (m ∷ [])
-  ∙ ap (λ rest. added M before ++ rest) (append-nil (if has_module M before m.name.name then [] else m ∷ []))
+    each_after-append (λ before (m : TModule). if has_module M before m.name.name then [] else m ∷ []) [] before (m ∷ [])
+    ∙ ap (λ rest. added M before ++ rest) (append-nil (if has_module M before m.name.name then [] else m ∷ []))
 
 -- what is known by the table's modules and those that are added
 abbrev known_by : Plain → Bool → List TModule → Known
@@ -82,22 +82,24 @@ known_by M all_leaf new = record {
 -- what is known after one module more
 pub known-more : (M : Plain) (all_leaf : Bool) (before : List TModule) (m : TModule) → known M all_leaf (before ++ m ∷ []) ≡ after_module all_leaf (known M all_leaf before) m
 known-more M all_leaf before m =
-  ap (known_by M all_leaf) (added-more M before m)
-  ∙ at_h (has_module M before m.name.name)
-  ∙ ap (λ (h : Bool). cond h k one_more) (sym (there-faces M all_leaf before m.name.name))
+    ap (known_by M all_leaf) (added-more M before m)
+    ∙ at_h (has_module M before m.name.name)
+    ∙ ap (λ (h : Bool). cond h k one_more) (sym (there-faces M all_leaf before m.name.name))
   where
     k : Known
     k = known M all_leaf before
+
     one_more : Known
     one_more = record { faces = k.faces ++ face all_leaf k.next_module m ∷ []; next_module = k.next_module + 1 }
+
     at_h : (h : Bool) → known_by M all_leaf (added M before ++ cond h [] (m ∷ [])) ≡ cond h k one_more
     at_h true = ap (known_by M all_leaf) (append-nil (added M before))
     at_h false =
-      let es : faces M all_leaf before ++ face all_leaf k.next_module m ∷ [] ≡ map row_face M.modules ++ numbered (face all_leaf) M.next_module (added M before ++ m ∷ [])
+        let es : faces M all_leaf before ++ face all_leaf k.next_module m ∷ [] ≡ map row_face M.modules ++ numbered (face all_leaf) M.next_module (added M before ++ m ∷ [])
         = append_assoc (map row_face M.modules) (numbered (face all_leaf) M.next_module (added M before)) (face all_leaf k.next_module m ∷ [])
         ∙ ap (λ es. map row_face M.modules ++ es) (sym (numbered-append (face all_leaf) M.next_module (added M before) (m ∷ []))) in
-      let n : M.next_module + length (added M before ++ m ∷ []) ≡ M.next_module + length (added M before) + 1 = rw (length-append (added M before) (m ∷ [])) (grind arith) in
-      rw (es, n) refl
+        let n : M.next_module + length (added M before ++ m ∷ []) ≡ M.next_module + length (added M before) + 1 = rw (length-append (added M before) (m ∷ [])) (grind arith) in
+        rw (es, n) refl
 
 -- the first round, by its walk
 pub declaration_checks-walk : (M : Plain) (all_leaf : Bool) (ms : List TModule) → first (declaration_checks M all_leaf ms) ≡ first_fault (module_walk all_leaf) (known M all_leaf []) ms
@@ -109,5 +111,5 @@ known-walk M all_leaf ms = known-at_end (module_walk all_leaf) (known M all_leaf
 -- what is known at first
 pub known-none : (M : Plain) (all_leaf : Bool) → known M all_leaf [] ≡ record { faces = map row_face M.modules; next_module = M.next_module }
 known-none M all_leaf =
-  let n : M.next_module + 0 ≡ M.next_module = omega arith in
-  rw (append-nil (map row_face M.modules), n) refl
+    let n : M.next_module + 0 ≡ M.next_module = omega arith in
+    rw (append-nil (map row_face M.modules), n) refl

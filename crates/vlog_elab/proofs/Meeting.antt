@@ -16,14 +16,14 @@ with_new-append ns (e ∷ es) fs = with_new-append (if is_there ns e.0 then ns e
 pub adds-flat : {V Y : Type 0} (f : Y → Named V) (ys : List Y) (i : ℕ) (y : Y) (n s t : Named V) → i < length ys → y ≡ get_or ys i y
     → s ≡ with_new n (flat_map f (take i ys)) → t ≡ with_new s (f y) → t ≡ with_new n (flat_map f (take (i + 1) ys))
 adds-flat f ys i y n s t within here p q =
-  q ∙ ap (λ s. with_new s (f y)) p ∙ sym (with_new-append n (flat_map f (take i ys)) (f y))
-  ∙ ap (with_new n) (sym (flat_map-push f (take i ys) y) ∙ ap (flat_map f) (sym (one_more ys i y within here)))
+    q ∙ ap (λ s. with_new s (f y)) p ∙ sym (with_new-append n (flat_map f (take i ys)) (f y))
+    ∙ ap (with_new n) (sym (flat_map-push f (take i ys) y) ∙ ap (flat_map f) (sym (one_more ys i y within here)))
 
 pub adds-map : {V Y : Type 0} (f : Y → List ℕ × V) (ys : List Y) (i : ℕ) (y : Y) (n s t : Named V) → i < length ys → y ≡ get_or ys i y
     → s ≡ with_new n (map f (take i ys)) → t ≡ with_new s (f y ∷ []) → t ≡ with_new n (map f (take (i + 1) ys))
 adds-map f ys i y n s t within here p q =
-  q ∙ ap (λ s. with_new s (f y ∷ [])) p ∙ sym (with_new-append n (map f (take i ys)) (f y ∷ []))
-  ∙ ap (with_new n) (sym (map-append f (take i ys) (y ∷ [])) ∙ ap (map f) (sym (one_more ys i y within here)))
+    q ∙ ap (λ s. with_new s (f y ∷ [])) p ∙ sym (with_new-append n (map f (take i ys)) (f y ∷ []))
+    ∙ ap (with_new n) (sym (map-append f (take i ys) (y ∷ [])) ∙ ap (map f) (sym (one_more ys i y within here)))
 
 -- and from nothing on
 pub firsts-from_none : {V : Type 0} (es : Named V) → with_new [] es ≡ firsts es

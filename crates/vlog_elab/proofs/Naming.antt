@@ -26,9 +26,9 @@ pub position_from-push : {X : Type 0} (t : X → Bool) (n : ℕ) (xs : List X) (
     → position_from t n (xs ++ x ∷ []) ≡ cond (is_some (position_from t n xs)) (position_from t n xs) (cond (t x) (Some (n + length xs)) None)
 position_from-push t n [] x = grind arith
 position_from-push t n (y ∷ xs) x = elim (t y) as (λ b. cond b (Some n) (position_from t (n + 1) (xs ++ x ∷ [])) ≡ cond (is_some (cond b (Some n) (position_from t (n + 1) xs))) (cond b (Some n) (position_from t (n + 1) xs)) (cond (t x) (Some (n + length (y ∷ xs))) None)) [
-    true ↦ refl
+  | true ↦ refl
   | false ↦ let ih = position_from-push t (n + 1) xs x in let e : n + 1 + length xs ≡ n + length (y ∷ xs) = grind arith in rw (← e) ih
-  ]
+]
 
 -- a name is there where it has a place
 pub is_there-place : {V : Type 0} (n : ℕ) (q : List ℕ) (es : List (List ℕ × V)) → is_some (lookup (bytes_eq q) es) ≡ is_some (position_from (λ e. bytes_eq q e.0) n es)
@@ -44,9 +44,9 @@ value-at_place {V} n k q (e ∷ es) h = at_b (λ h. value-at_place (n + 1) k q e
         → (b : Bool) → bytes_eq q e.0 ≡ b → cond b (Some n) (position_from (λ e. bytes_eq q e.0) (n + 1) es) ≡ Some k → (n ≤ k) × (option_map (λ (e : List ℕ × V). e.1) (slice_get (e ∷ es) (k - n)) ≡ cond b (Some e.1) (lookup (bytes_eq q) es))
     at_b more true f h = let same : n ≡ k = cc h in let none : k - n ≡ 0 = omega arith in (omega arith, rw none refl)
     at_b more false f h =
-      let ih = more h in
-      let some : k - n ≡ suc (k - (n + 1)) = omega arith in
-      (omega arith, rw some ih.1)
+        let ih = more h in
+        let some : k - n ≡ suc (k - (n + 1)) = omega arith in
+        (omega arith, rw some ih.1)
 
 pub value-at : {V : Type 0} (k : ℕ) (q : List ℕ) (es : List (List ℕ × V)) → place_of es q ≡ Some k → option_map (λ e. e.1) (slice_get es k) ≡ lookup (bytes_eq q) es
 value-at k q es h = let same : k - 0 ≡ k = omega arith in rw same at (value-at_place 0 k q es h).1
@@ -88,8 +88,8 @@ place-push_again {V} es e q there = position_from-push (λ (e : List ℕ × V). 
     at_b : (b : Bool) → bytes_eq q e.0 ≡ b → cond (is_some (place_of es q)) (place_of es q) (cond b (Some (0 + length es)) None) ≡ place_of es q
     at_b false f = place-kept (place_of es q)
     at_b true f =
-      let same : q ≡ e.0 = same_name q e.0 f in
-      place-found (place_of es q) (Some (0 + length es)) (sym (is_there-place 0 q es) ∙ (rw same there))
+        let same : q ≡ e.0 = same_name q e.0 f in
+        place-found (place_of es q) (Some (0 + length es)) (sym (is_there-place 0 q es) ∙ (rw same there))
 
 -- a new name has the last place
 pub place-push_first : {V : Type 0} (es : List (List ℕ × V)) (e : List ℕ × V) (q : List ℕ) → is_there es e.0 ≡ false
@@ -99,28 +99,28 @@ place-push_first {V} es e q fresh = position_from-push (λ (e : List ℕ × V). 
     at_b : (b : Bool) → bytes_eq e.0 q ≡ b → cond (is_some (place_of es q)) (place_of es q) (cond (bytes_eq q e.0) (Some (0 + length es)) None) ≡ cond b (Some (length es)) (place_of es q)
     at_b false f = rw (bytes_eq-sym q e.0, f) (place-kept (place_of es q))
     at_b true f =
-      let same : e.0 ≡ q = same_name e.0 q f in
-      let none : place_of es q ≡ None = place-None q es (rw (← same) fresh) in
-      let zero : 0 + length es ≡ length es = omega arith in
-      rw (bytes_eq-sym q e.0, f, none, zero) refl
+        let same : e.0 ≡ q = same_name e.0 q f in
+        let none : place_of es q ≡ None = place-None q es (rw (← same) fresh) in
+        let zero : 0 + length es ≡ length es = omega arith in
+        rw (bytes_eq-sym q e.0, f, none, zero) refl
 
 -- the entries grow at the end by a name that is there
 pub agrees-push_again : {V : Type 0} (m : BTreeMap (Bor (List ℕ)) ℕ) (es fs : List (Bor (List ℕ) × V)) (k : Bor (List ℕ)) (v : V)
     → Agrees m es → is_there (texts es) k.now ≡ true → fs ≡ es ++ (k, v) ∷ [] → Agrees m fs
 agrees-push_again m es fs k v old there made q =
-  let now : texts fs ≡ texts es ++ (k.now, v) ∷ [] = ap texts made ∙ texts-push es (k, v) in
-  old q ∙ sym (place-push_again (texts es) (k.now, v) q there) ∙ sym (ap (λ es. place_of es q) now)
+    let now : texts fs ≡ texts es ++ (k.now, v) ∷ [] = ap texts made ∙ texts-push es (k, v) in
+    old q ∙ sym (place-push_again (texts es) (k.now, v) q there) ∙ sym (ap (λ es. place_of es q) now)
 
 -- the entries grow at the end by a new name, whose place goes into the map
 pub agrees-push_first : {V : Type 0} (m n : BTreeMap (Bor (List ℕ)) ℕ) (es fs : List (Bor (List ℕ) × V)) (k : Bor (List ℕ)) (key : List ℕ) (v : V) (place : ℕ)
     → key ≡ k.now → Agrees m es → is_there (texts es) k.now ≡ false → fs ≡ es ++ (k, v) ∷ [] → place ≡ length es
     → UpdatesBy (λ x y. slice_cmp nat_cmp x.now y.now) (λ y. slice_cmp nat_cmp key y.now) m n (Some place) → Agrees n fs
 agrees-push_first {V} m n es fs k key v place same old fresh made here updates q =
-  let now : texts fs ≡ texts es ++ (k.now, v) ∷ [] = ap texts made ∙ texts-push es (k, v) in
-  let last : place ≡ length (texts es) = here ∙ sym (simp length-map) in
-  btree_map_updates_str key m n (Some place) updates q
-  ∙ (rw (old q, last, same) (sym (place-push_first (texts es) (k.now, v) q fresh)))
-  ∙ sym (ap (λ es. place_of es q) now)
+    let now : texts fs ≡ texts es ++ (k.now, v) ∷ [] = ap texts made ∙ texts-push es (k, v) in
+    let last : place ≡ length (texts es) = here ∙ sym (simp length-map) in
+    btree_map_updates_str key m n (Some place) updates q
+    ∙ (rw (old q, last, same) (sym (place-push_first (texts es) (k.now, v) q fresh)))
+    ∙ sym (ap (λ es. place_of es q) now)
 
 -- a name without a place isn't there
 pub there-None : {V : Type 0} (q : List ℕ) (es : List (List ℕ × V)) → place_of es q ≡ None → named es q ≡ None
@@ -159,14 +159,14 @@ firsts-there_after : {V : Type 0} (before es : List (List ℕ × V)) (q : List �
     → (is_there before q || is_there (each_after (λ before (e : List ℕ × V). if is_there before e.0 then [] else e ∷ []) before es) q) ≡ is_there (before ++ es) q
 firsts-there_after before [] q = or-false (is_there before q) ∙ ap (λ es. is_there es q) (sym (append-nil before))
 firsts-there_after {V} before (e ∷ es) q =
-  let rest : List (List ℕ × V) = each_after (λ before (e : List ℕ × V). if is_there before e.0 then [] else e ∷ []) (before ++ e ∷ []) es in
-  let known_before : is_there before e.0 ≡ true → bytes_eq q e.0 ≡ true → is_there before q ≡ true
+    let rest : List (List ℕ × V) = each_after (λ before (e : List ℕ × V). if is_there before e.0 then [] else e ∷ []) (before ++ e ∷ []) es in
+    let known_before : is_there before e.0 ≡ true → bytes_eq q e.0 ≡ true → is_there before q ≡ true
     = λ h f. let same : q ≡ e.0 = same_name q e.0 f in (rw same h) in
-  ap (λ b. is_there before q || b) (there-one_or_not (is_there before e.0) e rest q)
-  ∙ one_or_not (is_there before q) (bytes_eq q e.0) (is_there rest q) (is_there before e.0) known_before
-  ∙ ap (λ b. b || is_there rest q) (sym (there-append before (e ∷ []) q ∙ ap (λ b. is_there before q || b) (there-one e q)))
-  ∙ firsts-there_after (before ++ e ∷ []) es q
-  ∙ ap (λ es. is_there es q) (append_assoc before (e ∷ []) es)
+    ap (λ b. is_there before q || b) (there-one_or_not (is_there before e.0) e rest q)
+    ∙ one_or_not (is_there before q) (bytes_eq q e.0) (is_there rest q) (is_there before e.0) known_before
+    ∙ ap (λ b. b || is_there rest q) (sym (there-append before (e ∷ []) q ∙ ap (λ b. is_there before q || b) (there-one e q)))
+    ∙ firsts-there_after (before ++ e ∷ []) es q
+    ∙ ap (λ es. is_there es q) (append_assoc before (e ∷ []) es)
 
 pub firsts-there : {V : Type 0} (es : List (List ℕ × V)) (q : List ℕ) → is_there (firsts es) q ≡ is_there es q
 firsts-there es q = firsts-there_after [] es q
@@ -174,10 +174,10 @@ firsts-there es q = firsts-there_after [] es q
 -- one more goes last where its name is new
 pub firsts-push : {V : Type 0} (es : List (List ℕ × V)) (e : List ℕ × V) → firsts (es ++ e ∷ []) ≡ (if is_there (firsts es) e.0 then firsts es else firsts es ++ e ∷ [])
 firsts-push {V} es e =
-  each_after-append (λ before (e : List ℕ × V). if is_there before e.0 then [] else e ∷ []) [] es (e ∷ [])
-  ∙ ap (λ rest. firsts es ++ rest) (append-nil (if is_there es e.0 then [] else e ∷ []))
-  ∙ at_h (is_there es e.0)
-  ∙ ap (λ (h : Bool). cond h (firsts es) (firsts es ++ e ∷ [])) (sym (firsts-there es e.0))
+    each_after-append (λ before (e : List ℕ × V). if is_there before e.0 then [] else e ∷ []) [] es (e ∷ [])
+    ∙ ap (λ rest. firsts es ++ rest) (append-nil (if is_there es e.0 then [] else e ∷ []))
+    ∙ at_h (is_there es e.0)
+    ∙ ap (λ (h : Bool). cond h (firsts es) (firsts es ++ e ∷ [])) (sym (firsts-there es e.0))
   where
     at_h : (h : Bool) → firsts es ++ cond h [] (e ∷ []) ≡ cond h (firsts es) (firsts es ++ e ∷ [])
     at_h true = append-nil (firsts es)
@@ -186,7 +186,7 @@ firsts-push {V} es e =
 pub firsts-append : {V : Type 0} (es fs : List (List ℕ × V)) → firsts (es ++ fs) ≡ with_new (firsts es) fs
 firsts-append es [] = ap firsts (append-nil es)
 firsts-append es (f ∷ fs) =
-  ap firsts (sym (append_assoc es (f ∷ []) fs)) ∙ firsts-append (es ++ f ∷ []) fs ∙ ap (λ es. with_new es fs) (firsts-push es f)
+    ap firsts (sym (append_assoc es (f ∷ []) fs)) ∙ firsts-append (es ++ f ∷ []) fs ∙ ap (λ es. with_new es fs) (firsts-push es f)
 
 -- Places in joined lists.
 
@@ -194,9 +194,9 @@ pub position_from-append : {X : Type 0} (t : X → Bool) (n : ℕ) (xs ys : List
     → position_from t n (xs ++ ys) ≡ cond (is_some (position_from t n xs)) (position_from t n xs) (position_from t (n + length xs) ys)
 position_from-append t n [] ys = let none : n + 0 ≡ n = omega arith in rw none refl
 position_from-append t n (x ∷ xs) ys = elim (t x) as (λ b. cond b (Some n) (position_from t (n + 1) (xs ++ ys)) ≡ cond (is_some (cond b (Some n) (position_from t (n + 1) xs))) (cond b (Some n) (position_from t (n + 1) xs)) (position_from t (n + length (x ∷ xs)) ys)) [
-    true ↦ refl
+  | true ↦ refl
   | false ↦ let e : n + 1 + length xs ≡ n + length (x ∷ xs) = grind arith in position_from-append t (n + 1) xs ys ∙ (rw e refl)
-  ]
+]
 
 pub position_from-below : {X : Type 0} (t : X → Bool) (n k : ℕ) (xs : List X) → position_from t n xs ≡ Some k → k < n + length xs
 position_from-below t n k [] h = absurd (cc h)
@@ -209,8 +209,8 @@ position_from-below t n k (x ∷ xs) h = at_b (λ h. position_from-below t (n + 
 -- a name that is there has its place there, whatever follows
 pub place-there : {V : Type 0} (es fs : List (List ℕ × V)) (q : List ℕ) → is_there es q ≡ true → place_of (es ++ fs) q ≡ place_of es q
 place-there {V} es fs q there =
-  position_from-append (λ (e : List ℕ × V). bytes_eq q e.0) 0 es fs
-  ∙ place-found (place_of es q) (position_from (λ (e : List ℕ × V). bytes_eq q e.0) (0 + length es) fs) (sym (is_there-place 0 q es) ∙ there)
+    position_from-append (λ (e : List ℕ × V). bytes_eq q e.0) 0 es fs
+    ∙ place-found (place_of es q) (position_from (λ (e : List ℕ × V). bytes_eq q e.0) (0 + length es) fs) (sym (is_there-place 0 q es) ∙ there)
 
 pub place-below : {V : Type 0} (es : List (List ℕ × V)) (q : List ℕ) (k : ℕ) → place_of es q ≡ Some k → k < length es
 place-below {V} es q k h = omega (arith, position_from-below (λ (e : List ℕ × V). bytes_eq q e.0) 0 k es h)
@@ -218,10 +218,10 @@ place-below {V} es q k h = omega (arith, position_from-below (λ (e : List ℕ �
 -- a new name's place is the first after those that are there
 pub place-new : {V : Type 0} (es fs : List (List ℕ × V)) (e : List ℕ × V) → is_there es e.0 ≡ false → place_of (es ++ e ∷ fs) e.0 ≡ Some (length es)
 place-new {V} es fs e new =
-  let none : place_of es e.0 ≡ None = place-None e.0 es new in
-  let zero : 0 + length es ≡ length es = omega arith in
-  position_from-append (λ (f : List ℕ × V). bytes_eq e.0 f.0) 0 es (e ∷ fs)
-  ∙ (rw (none, bytes_eq-refl e.0, zero) refl)
+    let none : place_of es e.0 ≡ None = place-None e.0 es new in
+    let zero : 0 + length es ≡ length es = omega arith in
+    position_from-append (λ (f : List ℕ × V). bytes_eq e.0 f.0) 0 es (e ∷ fs)
+    ∙ (rw (none, bytes_eq-refl e.0, zero) refl)
 
 pub item-after : {X : Type 0} (xs ys : List X) (x : X) → slice_get (xs ++ x ∷ ys) (length xs) ≡ Some x
 item-after [] ys x = refl

@@ -18,11 +18,11 @@ use Rattle.vlog_elab.proofs.Each.{all_weaker, all_numbered, pairs_append, number
 pub modules_rise : (M : Plain) (fs : Named Face) (all_leaf : Bool) (new : List TModule) → IsSound M
     → AllPairs (λ (a b : PModule). a.id.0 < b.id.0) (M.modules ++ numbered (row fs all_leaf) M.next_module new)
 modules_rise M fs all_leaf new sound =
-  let number : PModule → ℕ = λ m. m.id.0 in
-  let rows : List PModule = numbered (row fs all_leaf) M.next_module new in
-  let from : All (λ m. M.next_module ≤ number m) rows = numbered_from number (row fs all_leaf) (λ n m. refl) M.next_module new in
-  pairs_append (λ (a b : PModule). a.id.0 < b.id.0) M.modules rows sound.rise (numbered_rise number (row fs all_leaf) (λ n m. refl) M.next_module new)
-  (all_weaker (λ (m : PModule). m.id.0 < M.next_module) (λ (m : PModule). All (λ (b : PModule). m.id.0 < b.id.0) rows) M.modules
+    let number : PModule → ℕ = λ m. m.id.0 in
+    let rows : List PModule = numbered (row fs all_leaf) M.next_module new in
+    let from : All (λ m. M.next_module ≤ number m) rows = numbered_from number (row fs all_leaf) (λ n m. refl) M.next_module new in
+    pairs_append (λ (a b : PModule). a.id.0 < b.id.0) M.modules rows sound.rise (numbered_rise number (row fs all_leaf) (λ n m. refl) M.next_module new)
+    (all_weaker (λ (m : PModule). m.id.0 < M.next_module) (λ (m : PModule). All (λ (b : PModule). m.id.0 < b.id.0) rows) M.modules
     (λ m below. all_weaker (λ (b : PModule). M.next_module ≤ b.id.0) (λ (b : PModule). m.id.0 < b.id.0) rows (λ b above. omega (arith, below, above)) from) sound.below)
 
 -- the instances of a module that is built
@@ -32,6 +32,6 @@ insts_rise fs all_leaf id m = numbered_rise (λ (i : PInst). i.id.0) (inst_row f
 pub all_insts_rise : (M : Plain) (fs : Named Face) (all_leaf : Bool) (new : List TModule) → IsSound M
     → All (λ (m : PModule). AllPairs (λ (a b : PInst). a.id.0 < b.id.0) m.insts) (M.modules ++ numbered (row fs all_leaf) M.next_module new)
 all_insts_rise M fs all_leaf new sound =
-  All-append (λ (m : PModule). AllPairs (λ (a b : PInst). a.id.0 < b.id.0) m.insts) M.modules (numbered (row fs all_leaf) M.next_module new)
-  (all_weaker (IsSoundModule M) (λ (m : PModule). AllPairs (λ (a b : PInst). a.id.0 < b.id.0) m.insts) M.modules (λ m s. s.insts_rise) sound.modules)
-  (all_numbered (λ (m : PModule). AllPairs (λ (a b : PInst). a.id.0 < b.id.0) m.insts) (row fs all_leaf) (λ n m. insts_rise fs all_leaf n m) M.next_module new)
+    All-append (λ (m : PModule). AllPairs (λ (a b : PInst). a.id.0 < b.id.0) m.insts) M.modules (numbered (row fs all_leaf) M.next_module new)
+    (all_weaker (IsSoundModule M) (λ (m : PModule). AllPairs (λ (a b : PInst). a.id.0 < b.id.0) m.insts) M.modules (λ m s. s.insts_rise) sound.modules)
+    (all_numbered (λ (m : PModule). AllPairs (λ (a b : PInst). a.id.0 < b.id.0) m.insts) (row fs all_leaf) (λ n m. insts_rise fs all_leaf n m) M.next_module new)

@@ -41,22 +41,22 @@ known-end M all_leaf k end ms is p = p.end ∙ (rw (is, ← known-none M all_lea
 pub declarations-fail : (M : Plain) (all_leaf : Bool) (tree : Tree) (k : Known) (ms : List TModule) (e : ElabFault) → ms ≡ tree.modules → k ≡ at_first M
     → Fails (module_walk all_leaf) k ms e → Found (first (checks M all_leaf tree)) e
 declarations-fail M all_leaf tree k ms e same is q =
-  found-along _ _ e (checks-rounds M all_leaf tree)
-  (found-or _ _ e (found-along _ _ e (ap (λ ms. first (declaration_checks M all_leaf ms)) (sym same) ∙ declarations-walk M all_leaf k ms is) q.found))
+    found-along _ _ e (checks-rounds M all_leaf tree)
+    (found-or _ _ e (found-along _ _ e (ap (λ ms. first (declaration_checks M all_leaf ms)) (sym same) ∙ declarations-walk M all_leaf k ms is) q.found))
 
 pub connections-fail : (M : Plain) (all_leaf : Bool) (tree : Tree) (k end : Known) (ms : List TModule) (e : ElabFault) → ms ≡ tree.modules → k ≡ at_first M
     → Passed (module_walk all_leaf) k ms end → Found (first (checks_by end.faces all_leaf ms)) e → Found (first (checks M all_leaf tree)) e
 connections-fail M all_leaf tree k end ms e same is p q =
-  found-along _ _ e (checks-rounds M all_leaf tree)
-  (found-after _ _ e (ap (λ ms. first (declaration_checks M all_leaf ms)) (sym same) ∙ declarations-walk M all_leaf k ms is ∙ p.none)
-  (found-along _ _ e
+    found-along _ _ e (checks-rounds M all_leaf tree)
+    (found-after _ _ e (ap (λ ms. first (declaration_checks M all_leaf ms)) (sym same) ∙ declarations-walk M all_leaf k ms is ∙ p.none)
+    (found-along _ _ e
     (sym (ap (λ (k : Known). first (checks_by k.faces all_leaf ms)) (known-end M all_leaf k end ms is p) ∙ ap (λ ms. first (connection_checks M all_leaf ms)) same)) q))
 
 pub both-pass : (M : Plain) (all_leaf : Bool) (tree : Tree) (k end : Known) (ms : List TModule) → ms ≡ tree.modules → k ≡ at_first M
     → Passed (module_walk all_leaf) k ms end → first (checks_by end.faces all_leaf ms) ≡ None → (first (checks M all_leaf tree) ≡ None) × (end ≡ known M all_leaf tree.modules)
 both-pass M all_leaf tree k end ms same is p q =
-  let one : first (declaration_checks M all_leaf tree.modules) ≡ None
+    let one : first (declaration_checks M all_leaf tree.modules) ≡ None
     = ap (λ ms. first (declaration_checks M all_leaf ms)) (sym same) ∙ declarations-walk M all_leaf k ms is ∙ p.none in
-  let two : first (connection_checks M all_leaf tree.modules) ≡ None
+    let two : first (connection_checks M all_leaf tree.modules) ≡ None
     = sym (ap (λ (k : Known). first (checks_by k.faces all_leaf ms)) (known-end M all_leaf k end ms is p) ∙ ap (λ ms. first (connection_checks M all_leaf ms)) same) ∙ q in
-  (checks-rounds M all_leaf tree ∙ (rw (one, two) refl), known-end M all_leaf k end ms is p ∙ ap (known M all_leaf) same)
+    (checks-rounds M all_leaf tree ∙ (rw (one, two) refl), known-end M all_leaf k end ms is p ∙ ap (known M all_leaf) same)

@@ -20,27 +20,27 @@ use Rattle.vlog_elab.proofs.Numbering.{numbered_more}
 -- a value has no bits past its type's
 pub past_bits : (value place : ℕ) → value < 2 ^ 128 → 128 ≤ place → value / 2 ^ place ≡ 0
 past_bits value place small past =
-  let more : 2 ^ 128 ≤ 2 ^ place = pow_mono past in
-  div-eq_of_lt (omega (arith, more))
+    let more : 2 ^ 128 ≤ 2 ^ place = pow_mono past in
+    div-eq_of_lt (omega (arith, more))
 
 -- one bit of a literal more
 pub literal_more : (size done value : ℕ) (old bits : List Src) → done < size → old ++ literal_bits size value ≡ bits ++ literal_bits (size - done) value
     → old ++ literal_bits size value ≡ (bits ++ tie_of value (size - 1 - done) ∷ []) ++ literal_bits (size - (done + 1)) value
 literal_more size done value old bits within h =
-  let rest : size - done ≡ suc (size - (done + 1)) = omega arith in
-  let place : size - 1 - done ≡ size - (done + 1) = omega arith in
-  let step : literal_bits (size - done) value ≡ tie_of value (size - (done + 1)) ∷ literal_bits (size - (done + 1)) value = ap (λ n. literal_bits n value) rest in
-  h ∙ ap (λ more. bits ++ more) step
-  ∙ sym (append_assoc bits (tie_of value (size - (done + 1)) ∷ []) (literal_bits (size - (done + 1)) value))
-  ∙ ap (λ place. (bits ++ tie_of value place ∷ []) ++ literal_bits (size - (done + 1)) value) (sym place)
+    let rest : size - done ≡ suc (size - (done + 1)) = omega arith in
+    let place : size - 1 - done ≡ size - (done + 1) = omega arith in
+    let step : literal_bits (size - done) value ≡ tie_of value (size - (done + 1)) ∷ literal_bits (size - (done + 1)) value = ap (λ n. literal_bits n value) rest in
+    h ∙ ap (λ more. bits ++ more) step
+    ∙ sym (append_assoc bits (tie_of value (size - (done + 1)) ∷ []) (literal_bits (size - (done + 1)) value))
+    ∙ ap (λ place. (bits ++ tie_of value place ∷ []) ++ literal_bits (size - (done + 1)) value) (sym place)
 
 -- Connections by name, found by the names of their ports.
 
 pub pins_from-push : (n : ℕ) (cs : List TConn) (c : TConn) → pins_from n (cs ++ c ∷ []) ≡ pins_from n cs ++ pin_at (n + length cs) c.port
 pins_from-push n [] c = let none : n + 0 ≡ n = omega arith in rw none (append-nil (pin_at n c.port))
 pins_from-push n (b ∷ cs) c =
-  let e : n + 1 + length cs ≡ n + length (b ∷ cs) = grind arith in
-  ap (λ ps. pin_at n b.port ++ ps) (pins_from-push (n + 1) cs c ∙ (rw e refl)) ∙ sym (append_assoc (pin_at n b.port) (pins_from (n + 1) cs) (pin_at (n + length (b ∷ cs)) c.port))
+    let e : n + 1 + length cs ≡ n + length (b ∷ cs) = grind arith in
+    ap (λ ps. pin_at n b.port ++ ps) (pins_from-push (n + 1) cs c ∙ (rw e refl)) ∙ sym (append_assoc (pin_at n b.port) (pins_from (n + 1) cs) (pin_at (n + length (b ∷ cs)) c.port))
 
 abbrev the_unit : Unit {0}
 the_unit = tt
@@ -52,6 +52,7 @@ pin-found n q (c ∷ cs) k h = at_port (λ h. pin-found (n + 1) q cs k h) c.port
   where
     later : (n + 1 ≤ k) × (slice_get cs (k - (n + 1)) ≡ find (is_to q) cs) → (n ≤ k) × (slice_get (c ∷ cs) (k - n) ≡ find (is_to q) cs)
     later ih = let e : k - n ≡ suc (k - (n + 1)) = omega arith in (omega arith, rw e ih.1)
+
     at_port : (named (pins_from (n + 1) cs) q ≡ Some k → (n + 1 ≤ k) × (slice_get cs (k - (n + 1)) ≡ find (is_to q) cs))
         → (p : Option At) → named (pin_at n p ++ pins_from (n + 1) cs) q ≡ Some k → (n ≤ k) × (slice_get (c ∷ cs) (k - n) ≡ cond (is_there (port_named p) q) (Some c) (find (is_to q) cs))
     at_port more None h = later (more h)
@@ -82,8 +83,8 @@ conn_to-by_name (b ∷ cs) c place port h named = let same : b ≡ c = cc h in r
 pub conn-found : (cs : List TConn) (c : TConn) (k place : ℕ) (port : List ℕ) → Some c ≡ slice_get cs 0 → is_some c.port ≡ true → Some k ≡ named (pins_from 0 cs) port
     → slice_get cs k ≡ conn_to cs place port
 conn-found cs c k place port h names found =
-  let e : k - 0 ≡ k = omega arith in
-  (rw e at (pin-found 0 port cs k (sym found)).1) ∙ sym (conn_to-by_name cs c place port h names)
+    let e : k - 0 ≡ k = omega arith in
+    (rw e at (pin-found 0 port cs k (sym found)).1) ∙ sym (conn_to-by_name cs c place port h names)
 
 pub no_conn-found : (cs : List TConn) (c : TConn) (place : ℕ) (port : List ℕ) → Some c ≡ slice_get cs 0 → is_some c.port ≡ true → None ≡ named (pins_from 0 cs) port
     → None ≡ conn_to cs place port
@@ -94,8 +95,8 @@ pub conns_more : (ns : Named Net) (ps : Named Port) (cs : List TConn) (i : ℕ) 
     → ((port : List ℕ × Port) → slice_get ps i ≡ Some port → made ≡ conn_of ns (conn_to cs i port.0))
     → conns_of ns (take (i + 1) ps) cs ≡ conns_of ns (take i ps) cs ++ made ∷ []
 conns_more ns ps cs i made within says =
-  let port : List ℕ × Port = get_or ps i ([], record { dir = Input; range = None }) in
-  let is : slice_get ps i ≡ Some port = slice_get-get_or ps i ([], record { dir = Input; range = None }) within in
-  let none : 0 + i ≡ i = omega arith in
-  numbered_more (λ place (port : List ℕ × Port). conn_of ns (conn_to cs place port.0)) 0 ps i port within (sym (get_or_from_slice_get ps i port port is))
-  ∙ (rw (none, says port is) refl)
+    let port : List ℕ × Port = get_or ps i ([], record { dir = Input; range = None }) in
+    let is : slice_get ps i ≡ Some port = slice_get-get_or ps i ([], record { dir = Input; range = None }) within in
+    let none : 0 + i ≡ i = omega arith in
+    numbered_more (λ place (port : List ℕ × Port). conn_of ns (conn_to cs place port.0)) 0 ps i port within (sym (get_or_from_slice_get ps i port port is))
+    ∙ (rw (none, says port is) refl)

@@ -22,11 +22,7 @@ pub fn conn_bits(alloc: Global, nets: &Names<'_, Net>, parts: &[Part]) -> Result
     Ok(Conn::Bits(bits))
 }
 
-fn push_parts(
-    bits: &mut List<Src>,
-    nets: &Names<'_, Net>,
-    parts: &[Part],
-) -> Result<(), NoMemory>
+fn push_parts(bits: &mut List<Src>, nets: &Names<'_, Net>, parts: &[Part]) -> Result<(), NoMemory>
     ensures { OnOk result (bits.new ≡ bits.old ++ flat_map (part_bits nets.now) parts.now) }
 {
     for part in parts {
@@ -49,7 +45,12 @@ fn push_part(bits: &mut List<Src>, nets: &Names<'_, Net>, part: &Part) -> Result
         }
         Part::Bits(token, range) => {
             let offset = offset_in(net_range(nets, &token.name), range.left);
-            push_net(bits, net_id(nets, &token.name)?, offset, width(Some(*range)))
+            push_net(
+                bits,
+                net_id(nets, &token.name)?,
+                offset,
+                width(Some(*range)),
+            )
         }
         Part::Lit { size, value } => push_literal(bits, *size, *value),
     }

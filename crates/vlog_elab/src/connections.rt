@@ -176,13 +176,7 @@ fn walk_inst_of<'a>(
     ensures { Walks step_walk scope.old (inst_steps (Some face.now) master.now inst.now) result scope.new }
 {
     place(face, master, scope, &inst.name)?;
-    walk_conns(
-        alloc,
-        &face.ports,
-        scope,
-        &inst.name,
-        inst.conns.as_slice(),
-    )
+    walk_conns(alloc, &face.ports, scope, &inst.name, inst.conns.as_slice())
 }
 
 fn walk_conns<'a>(
@@ -229,11 +223,7 @@ fn use_parts<'a>(scope: &mut Scope<'a>, parts: &'a [Part]) -> Result<(), ElabFau
     Ok(())
 }
 
-fn declare<'a>(
-    scope: &mut Scope<'a>,
-    name: &'a At,
-    range: Option<Range>,
-) -> Result<(), ElabFault>
+fn declare<'a>(scope: &mut Scope<'a>, name: &'a At, range: Option<Range>) -> Result<(), ElabFault>
     ensures { Walks step_walk scope.old (Declares name.now range ∷ []) result scope.new }
 {
     if let Some(net) = scope.nets.get(&name.name) {

@@ -60,11 +60,7 @@ fn pins_of(alloc: Global, conns: &[TConn]) -> Result<Names<'_, usize>, NoMemory>
     Ok(pins)
 }
 
-fn add_pin<'a>(
-    pins: &mut Names<'a, usize>,
-    conn: &'a TConn,
-    place: usize,
-) -> Result<(), NoMemory>
+fn add_pin<'a>(pins: &mut Names<'a, usize>, conn: &'a TConn, place: usize) -> Result<(), NoMemory>
     ensures { OnOk result (pins.new ≡ pins.old ++ pin_at place conn.now.port) }
 {
     match &conn.port {

@@ -23,12 +23,7 @@ use vlog_read::{TModule, Tree};
 /// A table with the modules of a tree after it, or the first rule that is broken. All modules are leaves where
 /// `all_leaf` is true, and else those that are marked. Declarations of all modules are looked at first, then
 /// connections, then whether a module holds an instance of itself in the end. It takes time n log n.
-pub fn elab(
-    alloc: Global,
-    table: &Plain,
-    tree: &Tree,
-    all_leaf: bool,
-) -> Result<Plain, ElabFault>
+pub fn elab(alloc: Global, table: &Plain, tree: &Tree, all_leaf: bool) -> Result<Plain, ElabFault>
     requires { IsSound table.now }
     ensures table { IfOk result (Elaborates table.now all_leaf tree.now) }
     ensures fault { IfErr result (UnlessNoMemory (HasFault table.now all_leaf tree.now)) }
@@ -40,12 +35,7 @@ pub fn elab(
         next_module: known.next_module,
     };
     match first_on_cycle(alloc, &plain, table.modules.len())? {
-        Some(place) => Err(recursive(
-            table,
-            &known.faces,
-            tree.modules.as_slice(),
-            place,
-        )),
+        Some(place) => Err(recursive(table, &known.faces, tree.modules.as_slice(), place)),
         None => Ok(plain),
     }
 }

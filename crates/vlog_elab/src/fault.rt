@@ -38,11 +38,7 @@ pub enum ElabKind {
 /// what has that name there.
 #[derive(Debug, Drop)]
 pub enum ElabFault {
-    Fault {
-        kind: ElabKind,
-        at: u32,
-        name: Name,
-    },
+    Fault { kind: ElabKind, at: u32, name: Name },
     NoMemory,
 }
 

@@ -1,6 +1,8 @@
 //! Elaboration: from the tree of a netlist to its module table, or to the first rule that is broken.
 #![tactic(auto)]
 
+mod bits;
+mod connections;
 mod conns;
 mod declarations;
 mod elaborate;
@@ -8,16 +10,14 @@ mod face;
 mod fault;
 mod modules;
 mod names;
-mod bits;
-mod connections;
 mod nets;
 mod ports;
 mod rows;
 mod said;
+mod same;
 mod scope;
 mod select;
 mod table;
-mod same;
 
 pub use elaborate::elab;
 pub use fault::{ElabFault, ElabKind};

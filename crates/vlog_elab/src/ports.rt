@@ -17,11 +17,7 @@ use std::alloc::Global;
 use vlog_read::{At, Decl, Header, TModule};
 
 /// The ports of a module, whose header and declarations are to be as they should.
-pub fn ports<'a>(
-    alloc: Global,
-    leaf: bool,
-    m: &'a TModule,
-) -> Result<Names<'a, Port>, ElabFault>
+pub fn ports<'a>(alloc: Global, leaf: bool, m: &'a TModule) -> Result<Names<'a, Port>, ElabFault>
     ensures { MatchResult result (λ made. (first (inside_checks leaf m.now) ≡ None) × (made ≡ ports m.now))
         (Found (first (inside_checks leaf m.now))) }
 {

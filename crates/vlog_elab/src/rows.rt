@@ -14,9 +14,7 @@ use crate::face::{Face, Port};
 use crate::names::Names;
 use crate::nets::nets_of;
 use crate::scope::Net;
-use emh_base::{
-    InstId, List, ModId, NetId, NoMemory, PInst, PModule, PNet, PPort, TryCopy,
-};
+use emh_base::{InstId, List, ModId, NetId, NoMemory, PInst, PModule, PNet, PPort, TryCopy};
 use std::alloc::Global;
 use vlog_read::{At, Item, TInst, TModule};
 

@@ -4,7 +4,8 @@ use shown::{empty_table, shown, shown_over};
 use std::test::Fail;
 
 /// Leaf cells: INV has ids 0, BUF 1, and BUS 2, whose ports are of two and four bits.
-const CELLS: &[u8] = b"module INV(input A, output Y); endmodule module BUF(input A, output Y); endmodule \
+const CELLS: &[u8] =
+    b"module INV(input A, output Y); endmodule module BUF(input A, output Y); endmodule \
 module BUS(input [1:0] A, output [0:3] Y); endmodule";
 
 #[test]
@@ -84,30 +85,81 @@ fn texts_give_tables(rt: HostRuntime) -> Result<(), Fail> {
 fn the_first_broken_rule_is_told(rt: HostRuntime) -> Result<(), Fail> {
     let cases: [(&[u8], &str); 44] = [
         (b"module INV(); endmodule", "NameTaken @7 INV"),
-        (b"module t; endmodule module t; endmodule", "NameTaken @27 t"),
-        (b"`celldefine module t; endmodule `endcelldefine module t; endmodule", "NameTaken @54 t"),
-        (b"`celldefine module INV(input A, inout Y); endmodule", "NameTaken @19 INV"),
-        (b"`celldefine module INV(input A, output Z); endmodule", "NameTaken @19 INV"),
-        (b"`celldefine module INV(input A, output [0:0] Y); endmodule", "NameTaken @19 INV"),
-        (b"`celldefine module INV(input A); endmodule", "NameTaken @19 INV"),
-        (b"`celldefine module INV(A, Y); input A; endmodule", "NoDirection @26 Y"),
+        (
+            b"module t; endmodule module t; endmodule",
+            "NameTaken @27 t",
+        ),
+        (
+            b"`celldefine module t; endmodule `endcelldefine module t; endmodule",
+            "NameTaken @54 t",
+        ),
+        (
+            b"`celldefine module INV(input A, inout Y); endmodule",
+            "NameTaken @19 INV",
+        ),
+        (
+            b"`celldefine module INV(input A, output Z); endmodule",
+            "NameTaken @19 INV",
+        ),
+        (
+            b"`celldefine module INV(input A, output [0:0] Y); endmodule",
+            "NameTaken @19 INV",
+        ),
+        (
+            b"`celldefine module INV(input A); endmodule",
+            "NameTaken @19 INV",
+        ),
+        (
+            b"`celldefine module INV(A, Y); input A; endmodule",
+            "NoDirection @26 Y",
+        ),
         (b"module t(a, b, a); endmodule", "PortTwice @15 a"),
         (b"module t(input a, output a); endmodule", "PortTwice @25 a"),
-        (b"module t(input [65536:0] a, output a); endmodule", "PortTwice @35 a"),
-        (b"module t(input [0:65536] a, b); endmodule", "BadIndex @16 a"),
-        (b"module t(input [4095:0] a, input [4096:0] b); endmodule", "TooWide @34 b"),
+        (
+            b"module t(input [65536:0] a, output a); endmodule",
+            "PortTwice @35 a",
+        ),
+        (
+            b"module t(input [0:65536] a, b); endmodule",
+            "BadIndex @16 a",
+        ),
+        (
+            b"module t(input [4095:0] a, input [4096:0] b); endmodule",
+            "TooWide @34 b",
+        ),
         (b"module t; wire [0:4096] a, b; endmodule", "TooWide @16 a"),
-        (b"module t; wire [65535:61440] a; endmodule", "3 t () [0 a[65535:61440]] {}"),
+        (
+            b"module t; wire [65535:61440] a; endmodule",
+            "3 t () [0 a[65535:61440]] {}",
+        ),
         (b"module t(a); input a, b; endmodule", "UnknownPort @22 b"),
-        (b"module t(a); input a; output a; endmodule", "NameTaken @29 a"),
+        (
+            b"module t(a); input a; output a; endmodule",
+            "NameTaken @29 a",
+        ),
         (b"module t(input a); input a; endmodule", "NameTaken @25 a"),
         (b"module t; wire a; wire b, a; endmodule", "NameTaken @26 a"),
-        (b"module t(a); wire a; input [0:0] a; endmodule", "RangeDiffers @33 a"),
-        (b"module t(input [1:0] a); wire [0:1] a; endmodule", "RangeDiffers @36 a"),
-        (b"`celldefine module c(a); input a; wire a, b; endmodule", "LeafBody @42 b"),
-        (b"`celldefine module c(a); input a; INV u(a); endmodule", "LeafBody @34 INV"),
+        (
+            b"module t(a); wire a; input [0:0] a; endmodule",
+            "RangeDiffers @33 a",
+        ),
+        (
+            b"module t(input [1:0] a); wire [0:1] a; endmodule",
+            "RangeDiffers @36 a",
+        ),
+        (
+            b"`celldefine module c(a); input a; wire a, b; endmodule",
+            "LeafBody @42 b",
+        ),
+        (
+            b"`celldefine module c(a); input a; INV u(a); endmodule",
+            "LeafBody @34 INV",
+        ),
         (b"module t(a, b, c); input b; endmodule", "NoDirection @9 a"),
-        (b"module t(n); INV u(.A(n)); input n; endmodule", "LateDeclaration @33 n"),
+        (
+            b"module t(n); INV u(.A(n)); input n; endmodule",
+            "LateDeclaration @33 n",
+        ),
         (b"module t; INV u(a); wire u; endmodule", "NameTaken @25 u"),
         (b"module t; NAND u(a); endmodule", "UnknownModule @10 NAND"),
         (b"module t; wire u; INV u(a); endmodule", "NameTaken @22 u"),
@@ -115,17 +167,41 @@ fn the_first_broken_rule_is_told(rt: HostRuntime) -> Result<(), Fail> {
         (b"module t; INV u(a, .Y(b)); endmodule", "Mixed @19 u"),
         (b"module t; INV u(.A(a), b); endmodule", "Mixed @23 u"),
         (b"module t; INV u(.A(a), ); endmodule", "Mixed @23 u"),
-        (b"module t; INV u(a, b, c); endmodule", "TooManyConnections @22 u"),
-        (b"module t; INV u(a, b, ); endmodule", "TooManyConnections @22 u"),
-        (b"module s; endmodule module t; s u(,); endmodule", "TooManyConnections @34 u"),
+        (
+            b"module t; INV u(a, b, c); endmodule",
+            "TooManyConnections @22 u",
+        ),
+        (
+            b"module t; INV u(a, b, ); endmodule",
+            "TooManyConnections @22 u",
+        ),
+        (
+            b"module s; endmodule module t; s u(,); endmodule",
+            "TooManyConnections @34 u",
+        ),
         (b"module t; INV u(.Z(a)); endmodule", "UnknownPort @17 Z"),
-        (b"module t; INV u(.A(a), .A(b)); endmodule", "PortTwice @24 A"),
+        (
+            b"module t; INV u(.A(a), .A(b)); endmodule",
+            "PortTwice @24 A",
+        ),
         (b"module t(); INV a(.A(a)); endmodule", "NameTaken @21 a"),
         (b"module t; INV u(a[0]); endmodule", "BadIndex @16 a"),
-        (b"module t; wire [3:1] a; INV u(a[0]); endmodule", "BadIndex @30 a"),
-        (b"module t; wire [3:0] a; BUS u(a[0:1]); endmodule", "BadIndex @30 a"),
-        (b"module t; wire [3:0] a; INV u(.Y(a)); endmodule", "WidthMismatch @33 Y"),
-        (b"module t; INV u({a, b}, 1'b0); endmodule", "WidthMismatch @16 A"),
+        (
+            b"module t; wire [3:1] a; INV u(a[0]); endmodule",
+            "BadIndex @30 a",
+        ),
+        (
+            b"module t; wire [3:0] a; BUS u(a[0:1]); endmodule",
+            "BadIndex @30 a",
+        ),
+        (
+            b"module t; wire [3:0] a; INV u(.Y(a)); endmodule",
+            "WidthMismatch @33 Y",
+        ),
+        (
+            b"module t; INV u({a, b}, 1'b0); endmodule",
+            "WidthMismatch @16 A",
+        ),
         (b"module t; t u(); endmodule", "Recursive @7 t"),
     ];
     for (text, fault) in &cases {
@@ -139,20 +215,50 @@ fn the_first_broken_rule_is_told(rt: HostRuntime) -> Result<(), Fail> {
 #[test]
 fn of_two_broken_rules_the_first_is_told(rt: HostRuntime) -> Result<(), Fail> {
     let cases: [(&[u8], &str); 14] = [
-        (b"module t; NAND u(a); wire b, b; endmodule", "NameTaken @29 b"),
-        (b"module s; NAND u(a); endmodule module t(a); endmodule", "NoDirection @40 a"),
+        (
+            b"module t; NAND u(a); wire b, b; endmodule",
+            "NameTaken @29 b",
+        ),
+        (
+            b"module s; NAND u(a); endmodule module t(a); endmodule",
+            "NoDirection @40 a",
+        ),
         (b"module INV(a, a); endmodule", "NameTaken @7 INV"),
-        (b"module t(a, b, b); output [65536:0] c; endmodule", "PortTwice @15 b"),
-        (b"module t(a); wire [9999:0] c, c; input a; output a; endmodule", "TooWide @19 c"),
-        (b"module t(a); wire [70000:0] c; endmodule", "BadIndex @19 c"),
-        (b"module t(a, b); input a; output [1:0] a; endmodule", "NameTaken @38 a"),
-        (b"`celldefine module INV(a); wire b; endmodule", "LeafBody @32 b"),
-        (b"module t; wire u; NAND u(a); endmodule", "UnknownModule @18 NAND"),
+        (
+            b"module t(a, b, b); output [65536:0] c; endmodule",
+            "PortTwice @15 b",
+        ),
+        (
+            b"module t(a); wire [9999:0] c, c; input a; output a; endmodule",
+            "TooWide @19 c",
+        ),
+        (
+            b"module t(a); wire [70000:0] c; endmodule",
+            "BadIndex @19 c",
+        ),
+        (
+            b"module t(a, b); input a; output [1:0] a; endmodule",
+            "NameTaken @38 a",
+        ),
+        (
+            b"`celldefine module INV(a); wire b; endmodule",
+            "LeafBody @32 b",
+        ),
+        (
+            b"module t; wire u; NAND u(a); endmodule",
+            "UnknownModule @18 NAND",
+        ),
         (b"module t; INV u(a, b, .C(u)); endmodule", "Mixed @22 u"),
         (b"module t; INV u(.C(u[1])); endmodule", "UnknownPort @17 C"),
         (b"module t; INV u(u[1]); endmodule", "NameTaken @16 u"),
-        (b"module t; INV u({a, b[1]}, {c, d}); endmodule", "BadIndex @20 b"),
-        (b"module a; b u(); endmodule module b; b u(); NAND v(); endmodule", "UnknownModule @44 NAND"),
+        (
+            b"module t; INV u({a, b[1]}, {c, d}); endmodule",
+            "BadIndex @20 b",
+        ),
+        (
+            b"module a; b u(); endmodule module b; b u(); NAND v(); endmodule",
+            "UnknownModule @44 NAND",
+        ),
     ];
     for (text, fault) in &cases {
         let made = shown(rt.alloc(), CELLS, text)?;
@@ -193,8 +299,16 @@ fn ids_end_at_the_largest_number(rt: HostRuntime) -> Result<(), Fail> {
     let cases: [(u32, &[u8], &str); 4] = [
         (4_294_967_295, b"", " next 4294967295"),
         (4_294_967_295, b"module t; endmodule", "TooManyModules @7 t"),
-        (4_294_967_294, b"module s; endmodule module t; endmodule", "TooManyModules @27 t"),
-        (4_294_967_294, b"module s; endmodule", "4294967294 s leaf () [] {} next 4294967295"),
+        (
+            4_294_967_294,
+            b"module s; endmodule module t; endmodule",
+            "TooManyModules @27 t",
+        ),
+        (
+            4_294_967_294,
+            b"module s; endmodule",
+            "4294967294 s leaf () [] {} next 4294967295",
+        ),
     ];
     for (next, text, made) in &cases {
         let table = empty_table(rt.alloc(), *next);

@@ -49,7 +49,9 @@ pub fn read(
 ) -> Result<Result<Plain, ElabFault>, Fail> {
     let read = tokens(alloc, &text[..text.len().min(FILE_LIMIT)])?;
     let tree = parse(alloc, &read)?;
-    is_sound(alloc, table)?.then_some(()).ok_or("no sound table")?;
+    is_sound(alloc, table)?
+        .then_some(())
+        .ok_or("no sound table")?;
     Ok(elab(alloc, table, &tree, all_leaf))
 }
 
@@ -81,7 +83,12 @@ fn show_module(text: &mut String, holder: &PModule) -> Result<(), Fail> {
     if !text.is_empty() {
         write!(text, " ")?;
     }
-    write!(text, "{} {}", holder.id.0, from_utf8(holder.name.as_bytes())?)?;
+    write!(
+        text,
+        "{} {}",
+        holder.id.0,
+        from_utf8(holder.name.as_bytes())?
+    )?;
     if holder.leaf {
         write!(text, " leaf")?;
     }
@@ -137,7 +144,13 @@ fn show_net(text: &mut String, place: usize, net: &PNet) -> Result<(), Fail> {
 
 fn show_inst(text: &mut String, place: usize, inst: &PInst) -> Result<(), Fail> {
     show_comma(text, place)?;
-    write!(text, "{} {}:{}(", inst.id.0, from_utf8(inst.name.as_bytes())?, inst.master.0)?;
+    write!(
+        text,
+        "{} {}:{}(",
+        inst.id.0,
+        from_utf8(inst.name.as_bytes())?,
+        inst.master.0
+    )?;
     for (port, conn) in inst.conns.as_slice().iter().enumerate() {
         show_comma(text, port)?;
         show_conn(text, conn)?;

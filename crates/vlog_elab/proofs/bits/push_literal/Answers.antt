@@ -5,5 +5,5 @@ use Rattle.vlog_elab.proofs.bits.push_literal.Goals as goal
 
 pub loop-done-preserved : goal.loop-done-preserved
 loop-done-preserved c =
-  literal_more c.args.size c.loop-done.done c.args.value c.args.bits.now c.loop-done.bits (omega arith) c.loop-done.invariant
-  ∙ ap (λ bits. bits ++ literal_bits (c.args.size - (c.loop-done.done + 1)) c.args.value) (sym (c.in_ok-push.ensures.ok ∙ ap (λ tie. c.loop-done.bits ++ tie ∷ []) c.tie_of.ensures))
+    literal_more c.args.size c.loop-done.done c.args.value c.args.bits.now c.loop-done.bits (omega arith) c.loop-done.invariant
+    ∙ ap (λ bits. bits ++ literal_bits (c.args.size - (c.loop-done.done + 1)) c.args.value) (sym (c.in_ok-push.ensures.ok ∙ ap (λ tie. c.loop-done.bits ++ tie ∷ []) c.tie_of.ensures))

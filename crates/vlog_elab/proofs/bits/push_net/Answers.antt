@@ -7,8 +7,8 @@ use Rattle.vlog_elab.proofs.bits.push_net.Goals as goal
 
 pub loop-step-preserved : goal.loop-step-preserved
 loop-step-preserved c =
-  let here : c.args.offset + c.loop-step.step ≡ c.in-Ok.place = grind (arith, c.in-Ok.ensures, c.from.ensures) in
-  c.in_ok-push.ensures.ok
-  ∙ ap (λ bits. bits ++ Bit c.args.net c.in-Ok.place ∷ []) c.loop-step.invariant
-  ∙ append_assoc c.args.bits.now (net_bits c.args.net c.args.offset c.loop-step.step) (Bit c.args.net c.in-Ok.place ∷ [])
-  ∙ ap (λ bits. c.args.bits.now ++ bits) (sym (map-range_with_len_more (λ k. Bit c.args.net k) c.args.offset c.loop-step.step c.in-Ok.place here))
+    let here : c.args.offset + c.loop-step.step ≡ c.in-Ok.place = grind (arith, c.in-Ok.ensures, c.from.ensures) in
+    c.in_ok-push.ensures.ok
+    ∙ ap (λ bits. bits ++ Bit c.args.net c.in-Ok.place ∷ []) c.loop-step.invariant
+    ∙ append_assoc c.args.bits.now (net_bits c.args.net c.args.offset c.loop-step.step) (Bit c.args.net c.in-Ok.place ∷ [])
+    ∙ ap (λ bits. c.args.bits.now ++ bits) (sym (map-range_with_len_more (λ k. Bit c.args.net k) c.args.offset c.loop-step.step c.in-Ok.place here))

@@ -5,8 +5,8 @@ use Rattle.vlog_elab.proofs.ports.add_ports.Goals as goal
 
 pub returns-in_err-add_port : goal.returns-in_err-add_port
 returns-in_err-add_port c =
-  let p = err_from_is_err_and c.from_residual.result c.from_residual.ensures.1 in
-  rw (p.1, p.2) (fails-items c.args.names.now c.loop-name.name-index c.name-item.result (omega arith) c.name-item.is c.loop-name.invariant c.in_err-add_port.ensures)
+    let p = err_from_is_err_and c.from_residual.result c.from_residual.ensures.1 in
+    rw (p.1, p.2) (fails-items c.args.names.now c.loop-name.name-index c.name-item.result (omega arith) c.name-item.is c.loop-name.invariant c.in_err-add_port.ensures)
 
 pub loop-name-preserved : goal.loop-name-preserved
 loop-name-preserved c = more-items c.args.names.now c.loop-name.name-index c.name-item.result (omega arith) c.name-item.is c.loop-name.invariant c.in_ok-add_port.ensures

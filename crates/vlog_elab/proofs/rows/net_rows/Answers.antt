@@ -5,5 +5,5 @@ use Rattle.vlog_elab.proofs.rows.net_rows.Goals as goal
 
 pub loop-place-preserved : goal.loop-place-preserved
 loop-place-preserved c =
-  rows_more net_row c.args.nets.now ([], record { range = None; implied = false }) c.loop-place.place c.loop-place.rows c.add_net.new.rows
-  (omega arith) c.loop-place.invariant c.in_ok-add_net.ensures
+    rows_more net_row c.args.nets.now ([], record { range = None; implied = false }) c.loop-place.place c.loop-place.rows c.add_net.new.rows
+    (omega arith) c.loop-place.invariant c.in_ok-add_net.ensures
