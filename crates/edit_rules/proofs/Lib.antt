@@ -4,3 +4,7 @@ pub mod TableLemmas
 pub mod ChangeLemmas
 pub mod OrderLemmas
 pub mod CountLemmas
+pub mod UnfoldLemmas
+pub mod HeightLemmas
+pub mod DepthLemmas
+pub mod ApplyLemmas

@@ -1,5 +1,5 @@
 -- After an edit of a sound table, modules and instances stand in rising order of their ids.
-use Rattle.std.proofs.Common.{◌≡◌, ℕ, ◌<◌, ◌==◌, not, Bool, true, false, cond, List, [], ◌∷◌, ◌++◌, length, get_or, map, All, AllPairs, Option, Some, None, refl, ap, arith}
+use Rattle.std.proofs.Common.{subst, sym, ◌≡◌, ℕ, ◌<◌, ◌==◌, not, Bool, true, false, cond, List, [], ◌∷◌, ◌++◌, length, get_or, map, All, AllPairs, Option, Some, None, refl, ap, arith}
 use Rattle.std.proofs.lemmas.List.{get_or-map, length-map}
 use Rattle.std.proofs.lemmas.List.Elements.{All-map, All-filter, All-push, All-weaker}
 use Rattle.std.proofs.lemmas.List.Kept.{AllPairs-filter}
@@ -136,3 +136,15 @@ order-after M (Lock m) sound = module_kept M m _ sound (λ x. refl) (λ x. refl)
 order-after M (Unlock m) sound = module_kept M m _ sound (λ x. refl) (λ x. refl)
 order-after M (SetFanout max cell) sound = sound-order M sound
 order-after M (SetGrid grid) sound = sound-order M sound
+
+-- modules stay in order where one is changed and keeps its id
+pub rise_changed : (M : Plain) (id : ModId) (f : PModule → PModule) → ((m : PModule) → (f m).id.0 ≡ m.id.0) → AllPairs (λ (a b : PModule). a.id.0 < b.id.0) M.modules → AllPairs (λ (a b : PModule). a.id.0 < b.id.0) (with_module M id f).modules
+rise_changed M id f same rise =
+    let g : PModule → PModule = λ m. cond (m.id.0 == id.0) (f m) m in
+    rises-map module_number g (λ m. chosen module_number (m.id.0 == id.0) (f m) m (same m)) M.modules rise
+
+-- a table that is the one after an edit of a sound table has its modules in order
+pub rise-after : (M : Plain) (e : Edit) (made : Plain) → IsSound M → made ≡ table_after M e → AllPairs (λ (a b : PModule). a.id.0 < b.id.0) made.modules
+rise-after M e made sound is =
+    let Rise : Plain → Type 0 = λ table. AllPairs (λ (a b : PModule). a.id.0 < b.id.0) table.modules in
+    subst Rise (sym is) (order-after M e sound).modules

@@ -4,7 +4,7 @@ use Rattle.emh_base.specs.declared.ids.ModId.{ModId}
 use Rattle.emh_base.specs.declared.plain.PModule.{PModule}
 use Rattle.emh_base.specs.declared.plain.Plain.{Plain}
 use Rattle.flatten_rules.specs.Lookup.{module_of}
-use Rattle.flatten_rules.specs.Extent.{total}
+use Rattle.flatten_rules.specs.Extent.{total, height}
 
 -- what an occurrence of a module counts
 abbrev pub Weight : Type 0
@@ -20,3 +20,7 @@ counted weight M levels m = min (total (weight_in weight M) M m levels) 4000001
 -- these numbers, for each module of the table
 abbrev pub level_of : Weight → Plain → ℕ → List ℕ
 level_of weight M levels = map (λ (m : PModule). counted weight M levels m.id) M.modules
+
+-- the height of each module of the table, down to that many levels
+abbrev pub heights : Plain → ℕ → List ℕ
+heights M levels = map (λ (m : PModule). height M m.id levels) M.modules

@@ -30,9 +30,12 @@ abbrev pub new_inst : ℕ → List ℕ → ModId → List Conn → PInst
 new_inst id name master conns = record { id = record { 0 = id }; name = name; master = master; conns = conns }
 
 -- the module with an instance more, which stands last and has the counter's value as its id
+abbrev pub with_inst_alone : List ℕ → ModId → List Conn → PModule → PModule
+with_inst_alone name master conns m = record m { insts = m.insts ++ new_inst m.next_inst name master conns ∷ [] }
+
+-- and the counter is raised
 abbrev pub with_new_inst : List ℕ → ModId → List Conn → PModule → PModule
-with_new_inst name master conns m =
-    record m { insts = m.insts ++ new_inst m.next_inst name master conns ∷ []; next_inst = m.next_inst + 1 }
+with_new_inst name master conns m = record (with_inst_alone name master conns m) { next_inst = m.next_inst + 1 }
 
 abbrev pub create_inst : Plain → ModId → List ℕ → ModId → Plain
 create_inst M m name master = with_module M m (with_new_inst name master (all_open (module_of M master)))

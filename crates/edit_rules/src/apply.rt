@@ -1,13 +1,21 @@
-ghost use Rattle.std.specs.Prelude.{◌≡◌, option_to_list, IfOk, OnOk, OnErr};
+ghost use Rattle.std.specs.Prelude.{◌≡◌, List as Seq, option_to_list, IfOk, OnOk, OnErr};
 ghost use Rattle.flatten_rules.specs.Lookup.{module_of};
 ghost use Rattle.flatten_rules.specs.Sound.{IsSound};
 ghost use Rattle.edit_rules.specs.Order.{InOrder};
 ghost use Rattle.edit_rules.specs.Readers.{next_net_of, next_inst_of, conns_of, conn_at, conn_of, inst_in};
 ghost use Rattle.edit_rules.specs.Spots.{kept};
-ghost use Rattle.edit_rules.specs.Apply.{table_after, with_place, settings_after, after, was, made, change};
+ghost use Rattle.edit_rules.specs.Check.{Check};
+ghost use Rattle.edit_rules.specs.Judged.{Looks, Answers};
+ghost use Rattle.edit_rules.specs.Good.{IsGoodState};
+ghost use Rattle.edit_rules.specs.Apply.{checks, apply, table_after, with_place, settings_after, after, was, made, change};
 
+use crate::insts::{connect, create_inst, delete_inst, disconnect, rename_inst, resize, uniquify};
+use crate::judged::Judged;
+use crate::modules::{create_module, delete_module, lock, rename_module, unlock};
+use crate::nets::{create_net, create_port, delete_net, delete_port, rename_net};
 use crate::readers::{inst_in, next_inst, next_net, place_at_inst};
-use crate::spots::kept;
+use crate::settings::{set_fanout, set_grid};
+use crate::spots::{kept, place, unplace};
 use emh_base::{
     By, Change, Conn, Edit, Fanout, InstId, List, ModId, NetId, NoMemory, Places, Plain, Settings,
     State, TryCopy,
@@ -139,4 +147,76 @@ fn settings_after(settings: Settings, edit: &Edit) -> Settings
         },
         _ => settings,
     }
+}
+
+/// Looks at the rules of an edit, and makes the table after it.
+fn table_after(state: &State, edit: &Edit) -> Result<Plain, Judged>
+    requires { IsSound state.now.plain }
+    ensures rules { Looks (checks state.now edit.now) result }
+    ensures made { IfOk result (λ made. made ≡ table_after state.now.plain edit.now) }
+{
+    match edit {
+        Edit::CreateModule { name } => create_module(state, name),
+        Edit::DeleteModule { module } => delete_module(state, *module),
+        Edit::CreateNet {
+            module,
+            name,
+            range,
+        } => create_net(state, *module, name, *range),
+        Edit::DeleteNet { module, net } => delete_net(state, *module, *net),
+        Edit::CreatePort {
+            module,
+            name,
+            dir,
+            range,
+        } => create_port(state, *module, name, *dir, *range),
+        Edit::DeletePort { module, port } => delete_port(state, *module, *port),
+        Edit::CreateInst {
+            module,
+            name,
+            master,
+        } => create_inst(state, *module, name, *master),
+        Edit::DeleteInst { module, inst } => delete_inst(state, *module, *inst),
+        Edit::Connect {
+            module,
+            inst,
+            port,
+            bits,
+        } => connect(state, *module, *inst, *port, bits),
+        Edit::Disconnect { module, inst, port } => disconnect(state, *module, *inst, *port),
+        Edit::RenameModule { module, name } => rename_module(state, *module, name),
+        Edit::RenameNet { module, net, name } => rename_net(state, *module, *net, name),
+        Edit::RenameInst { module, inst, name } => rename_inst(state, *module, *inst, name),
+        Edit::Resize {
+            module,
+            inst,
+            master,
+        } => resize(state, *module, *inst, *master),
+        Edit::Uniquify { module, inst, name } => uniquify(state, *module, *inst, name),
+        Edit::Place { path, .. } => unchanged(state, place(state, path)),
+        Edit::Unplace { path } => unchanged(state, unplace(state, path)),
+        Edit::Lock { module } => lock(state, *module),
+        Edit::Unlock { module } => unlock(state, *module),
+        Edit::SetFanout { max, cell } => unchanged(state, set_fanout(state, *max, *cell)),
+        Edit::SetGrid { grid } => unchanged(state, set_grid(*grid)),
+    }
+}
+
+/// The table as it is, where no rule is broken.
+fn unchanged(state: &State, looked: Result<(), Judged>) -> Result<Plain, Judged>
+    ensures rules { (rules : Seq Check) → Looks rules looked → Looks rules result }
+    ensures made { IfOk result (λ made. made ≡ state.now.plain) }
+{
+    looked?;
+    Ok(state.plain.copy()?)
+}
+
+/// Does an edit of a good state, asked for by the user, or tells the first rule that it breaks. After an error the
+/// state is as before.
+pub fn apply_plain(state: &mut State, edit: &Edit) -> Result<Change, Judged>
+    requires { IsGoodState state.old }
+    ensures { Answers (apply state.old By.User edit.now) state.old result state.new }
+{
+    let table = table_after(state, edit)?;
+    Ok(carry_out(state, edit, table)?)
 }

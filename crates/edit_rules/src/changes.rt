@@ -8,7 +8,7 @@ ghost use Rattle.edit_rules.specs.Insts.{set_conn};
 
 use crate::rewrite::{Rewrite, each, with_item, with_last, without, without_place};
 use emh_base::{
-    Conn, InstId, List, ModId, Name, NetId, NoMemory, PInst, PModule, PNet, PPort, Range, TryCopy,
+    Conn, InstId, List, ModId, Name, NetId, NoMemory, PInst, PModule, PNet, PPort, TryCopy,
 };
 
 /// A new name.
@@ -136,13 +136,6 @@ impl<R: Rewrite<PInst>> Rewrite<PInst> for OfMaster<R> {
             inst.copy()
         }
     }
-}
-
-/// A new net, which stands last and has the counter's value as its id.
-#[derive(Drop)]
-pub struct NewNet {
-    pub name: Name,
-    pub range: Option<Range>,
 }
 
 /// A net that goes.

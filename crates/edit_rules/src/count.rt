@@ -115,7 +115,7 @@ fn last_level<X: Measure>(plain: &Plain, measure: &X) -> Result<List<u64>, NoMem
 }
 
 /// What each module counts down to no level.
-fn no_level(plain: &Plain) -> Result<List<u64>, NoMemory>
+pub fn no_level(plain: &Plain) -> Result<List<u64>, NoMemory>
     ensures { IfOk result (λ made. made ≡ map (λ (m : PModule). 0) plain.now.modules) }
 {
     let mut made = List::new(plain.modules.alloc());

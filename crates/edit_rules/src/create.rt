@@ -4,7 +4,7 @@ ghost use Rattle.flatten_rules.specs.Lookup.{module_of};
 ghost use Rattle.edit_rules.specs.Changes.{with_module};
 ghost use Rattle.edit_rules.specs.Readers.{next_net_of, next_inst_of};
 ghost use Rattle.edit_rules.specs.Nets.{with_net, create_net, with_port, create_port};
-ghost use Rattle.edit_rules.specs.Insts.{with_new_inst, all_open, create_inst};
+ghost use Rattle.edit_rules.specs.Insts.{with_new_inst, with_inst_alone, all_open, create_inst};
 
 use crate::changes::LastOpen;
 use crate::readers::module_of;
@@ -184,4 +184,45 @@ fn open_for(master: &PModule) -> Result<List<Conn>, NoMemory>
         made.push(Conn::Open)?;
     }
     Ok(made)
+}
+
+/// The table with a new instance in a module, all its ports open; the counter isn't raised.
+pub fn with_inst_alone(
+    plain: &Plain,
+    id: ModId,
+    name: &Name,
+    master: ModId,
+) -> Result<Plain, NoMemory>
+    ensures { IfOk result (λ made. made ≡ with_module plain.now id (with_inst_alone name.now master (all_open (module_of plain.now master)))) }
+{
+    let change = InstAlone {
+        name: name.copy()?,
+        master,
+        conns: all_open(plain, master)?,
+    };
+    with_module(plain, id, change)
+}
+
+/// A new instance; the counter isn't raised.
+#[derive(Drop)]
+struct InstAlone {
+    name: Name,
+    master: ModId,
+    conns: List<Conn>,
+}
+
+impl Rewrite<PModule> for InstAlone {
+    ghost becomes = { λ new holder. with_inst_alone new.name new.master new.conns holder };
+
+    fn rewrite(&self, holder: &PModule) -> Result<PModule, NoMemory> {
+        let inst = PInst {
+            id: InstId(holder.next_inst),
+            name: self.name.copy()?,
+            master: self.master,
+            conns: self.conns.copy()?,
+        };
+        let mut made = holder.copy()?;
+        made.insts = with_last(holder.insts.alloc(), holder.insts.as_slice(), inst)?;
+        Ok(made)
+    }
 }

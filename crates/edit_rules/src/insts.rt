@@ -1,17 +1,22 @@
-ghost use Rattle.std.specs.Prelude.{◌≡◌, ◌∷◌, [], ◌++◌, ◌&&◌, flat_map, IfOk, true, false};
+ghost use Rattle.std.specs.Prelude.{◌≡◌, ◌∷◌, [], ◌++◌, ◌&&◌, ◌<◌, AllPairs, flat_map, IfOk, true, false};
 ghost use Rattle.flatten_rules.specs.Lookup.{module_of};
 ghost use Rattle.flatten_rules.specs.Domains.{is_leaf};
+ghost use Rattle.emh_base.specs.declared.plain.PModule.{PModule};
+ghost use Rattle.edit_rules.specs.Limits.{is_too_deep};
 ghost use Rattle.edit_rules.specs.Judged.{Looks};
 ghost use Rattle.edit_rules.specs.Readers.{inst_in, master_of};
-ghost use Rattle.edit_rules.specs.Insts.{delete_inst, delete_inst_rules, names_port, disconnect, disconnect_rules, rename_inst, rename_inst_rules, with_master, resize_rules, uniquify, uniquify_rules, with_conn, connect, connect_rules, source_rules, width_rules};
+ghost use Rattle.edit_rules.specs.Insts.{delete_inst, delete_inst_rules, names_port, disconnect, disconnect_rules, rename_inst, rename_inst_rules, with_master, resize_rules, uniquify, uniquify_rules, create_inst, create_inst_rules, with_conn, connect, connect_rules, source_rules, width_rules};
 ghost use Rattle.flatten_rules.specs.Sound.{IsSound};
 
 use crate::changes::{Called, Joined, Master, NoInst};
+use crate::create;
+use crate::depth::is_too_deep;
 use crate::judged::{Judged, keep};
+use crate::limits::{has_too_many_bits, has_too_many_occurrences, leads_to};
 use crate::modules::common;
 use crate::readers::{
     has_one_user, is_inst, is_joined, is_leaf, is_leaf_inst, is_module, is_module_name, is_name_in,
-    is_port, master_id, master_of, place_at_inst, same_ports,
+    is_port, master_id, master_of, next_inst, place_at_inst, same_ports,
 };
 use crate::table::{with_inst, with_last_module, with_module};
 use crate::width::{has_net, width_in};
@@ -263,4 +268,53 @@ fn look_source(state: &State, id: ModId, source: Src) -> Result<(), Judged>
             keep(Rule::BitOutOfRange, object, width <= offset)
         }
     }
+}
+
+/// The table with a new instance.
+pub fn create_inst(state: &State, id: ModId, name: &Name, master: ModId) -> Result<Plain, Judged>
+    requires { IsSound state.now.plain }
+    ensures rules { Looks (create_inst_rules state.now id name.now master) result }
+    ensures made { IfOk result (λ made. made ≡ create_inst state.now.plain id name.now master) }
+{
+    let plain = &state.plain;
+    let object = Object::Module(master);
+    common(state, id)?;
+    keep(Rule::NoSuchModule, object, !is_module(plain, master))?;
+    keep(
+        Rule::NameTaken,
+        Object::NewName,
+        is_name_in(plain, id, name.as_bytes()),
+    )?;
+    keep(Rule::Recursive, object, leads_to(plain, master, id)?)?;
+    keep(
+        Rule::TooDeep,
+        object,
+        makes_too_deep(plain, id, name, master)?,
+    )?;
+    keep(
+        Rule::TooManyObjects,
+        Object::Module(id),
+        next_inst(plain, id) == u32::MAX,
+    )?;
+    let made = create::create_inst(plain, id, name, master)?;
+    keep(
+        Rule::TooManyOccurrences,
+        object,
+        has_too_many_occurrences(&made, state.top)?,
+    )?;
+    keep(
+        Rule::TooManyBits,
+        object,
+        has_too_many_bits(&made, state.top)?,
+    )?;
+    Ok(made)
+}
+
+/// Whether some walk is too long in the table with a new instance, also where there is no number for it any more.
+fn makes_too_deep(plain: &Plain, id: ModId, name: &Name, master: ModId) -> Result<bool, NoMemory>
+    requires { AllPairs (λ (a b : PModule). a.id.0 < b.id.0) plain.now.modules }
+    ensures { IfOk result (λ deep. deep ≡ is_too_deep (create_inst plain.now id name.now master)) }
+{
+    let made = create::with_inst_alone(plain, id, name, master)?;
+    is_too_deep(&made)
 }

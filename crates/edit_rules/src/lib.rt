@@ -5,9 +5,11 @@ mod apply;
 mod changes;
 mod count;
 mod create;
+mod depth;
 mod insts;
 mod judged;
 mod laws;
+mod limits;
 mod modules;
 mod nets;
 mod readers;
@@ -17,5 +19,6 @@ mod spots;
 mod table;
 mod width;
 
+pub use apply::apply_plain;
 pub use judged::{Judged, Need};
 pub use laws::worked_edits;

@@ -1,9 +1,9 @@
 -- What the checks of soundness rest on: connections one by one, ports and their flags.
-use Rattle.std.proofs.Common.{◌≡◌, ◌≢◌, ℕ, ◌↔◌, ◌+◌, ◌<◌, ◌≤◌, ◌==◌, ◌||◌, zero, suc, nat_eq, Bool, true, false, List, [], ◌∷◌, ◌++◌, length, take, set, replicate, get_or, find, position, cond, is_some, Option, Some, None, IsTrue, IsSome, All, AllPairs, refl, sym, ap, ◌∙◌, subst, arith, ⊎_elim}
+use Rattle.std.proofs.Common.{◌≡◌, ◌≢◌, ℕ, ◌↔◌, ◌+◌, ◌<◌, ◌≤◌, ◌==◌, ◌||◌, zero, suc, nat_eq, Bool, true, false, List, [], ◌∷◌, ◌++◌, length, take, set, replicate, get_or, find, position, cond, is_some, Vec, Global, Option, Some, None, IsTrue, IsSome, All, AllPairs, refl, sym, ap, ◌∙◌, subst, arith, ⊎_elim}
 use Rattle.std.specs.List.{list_any, position_or_len}
 use Rattle.std.proofs.lemmas.Bool.{cases_lt, cases_eq, false≢true, both_ways, eqb-true, eq-eqb, ne_eqb, or_right}
 use Rattle.std.proofs.lemmas.Bool.Decides.{nat_tests}
-use Rattle.std.proofs.lemmas.List.{take_more, take_all, length-take, length-set, length-replicate, get_or-replicate, get_or-take, get_or-set_same, get_or-set_other, get_or_default}
+use Rattle.std.proofs.lemmas.List.{take_more, take_all, length-take, length-set, length-replicate, get_or-replicate, length_push, get_or_push, get_or_append_left, get_or-take, get_or-set_same, get_or-set_other, get_or_default}
 use Rattle.std.proofs.lemmas.List.Elements.{All-push, All-from_get_or}
 use Rattle.std.proofs.lemmas.List.Quantifiers.{all_pairs_push, position-Some}
 use Rattle.std.proofs.lemmas.List.Folds.{list_any_more, list_any_at, Any-from_list_any}
@@ -12,9 +12,10 @@ use Rattle.emh_base.specs.declared.plain.Conn.{Conn}
 use Rattle.emh_base.specs.declared.plain.PNet.{PNet}
 use Rattle.emh_base.specs.declared.plain.PPort.{PPort}
 use Rattle.emh_base.specs.declared.plain.PModule.{PModule}
+use Rattle.emh_base.specs.declared.plain.Plain.{Plain}
 use Rattle.flatten_rules.specs.Lookup.{net_of, port_of}
-use Rattle.flatten_rules.specs.Sound.{FitPorts, FitsPort, IsCell}
-use Rattle.flatten_rules.specs.Checks.{HasNets, HasPorts, ArePortPlaces, port_place}
+use Rattle.flatten_rules.specs.Sound.{FitPorts, FitsPort, IsCell, IsSoundModule}
+use Rattle.flatten_rules.specs.Checks.{HasNets, HasPorts, ArePortPlaces, AreAllPortPlaces, port_place}
 use Rattle.flatten_rules.proofs.Places.{item-there, position-within, position-none, position-push_yes, position-push_no, none-fails, find-from_place, find-from_none}
 
 -- connections fit ports where there are as many, and each fits the port at its place
@@ -201,3 +202,34 @@ port-nowhere m net ports none = sym (position-none (has_net net) m.ports (λ k d
     find-from_none (λ (x : PNet). x.id.0 == net.0) m.nets none ∙ ap (λ n. find (λ (x : PNet). x.id.0 == n) m.nets) (sym same)
     in
     absurd (false≢true (rw (← absent) at there)))))
+
+-- These are the places of the ports of the first modules of a table.
+pub record FirstPlaces (M : Plain) (count : ℕ) (all : List (Vec (Option ℕ) Global)) : Type 0 where
+  pub many : length all ≡ count
+  pub each : (k : ℕ) (m : PModule) (places : Vec (Option ℕ) Global) → k < count → ArePortPlaces (get_or M.modules k m) (get_or all k places).items
+
+pub first_places-more : (M : Plain) (all : List (Vec (Option ℕ) Global)) (count : ℕ) (m : PModule) (places : Vec (Option ℕ) Global) → count < length M.modules → m ≡ get_or M.modules count m → FirstPlaces M count all → ArePortPlaces m places.items → FirstPlaces M (count + 1) (all ++ places ∷ [])
+first_places-more M all count m places room at before here = record {
+  many = omega (arith, length_push all places, before.many);
+  each = λ k d f below.
+      ⊎_elim
+      (λ (earlier : k < count). rw (get_or_append_left all (places ∷ []) f k (omega (arith, before.many))) (before.each k d f earlier))
+      (λ (from : count ≤ k).
+      let same : k ≡ count = omega arith in
+      let mine : get_or M.modules k d ≡ m = ap (λ i. get_or M.modules i d) same ∙ get_or_default M.modules count d m room ∙ sym at in
+      let last : get_or (all ++ places ∷ []) k f ≡ places = get_or_push all places f k (before.many ∙ sym same) in
+      rw (mine, last) here)
+      (cases_lt k count);
+}
+
+pub first_places-all : (M : Plain) (all : List (Vec (Option ℕ) Global)) (count : ℕ) → count ≡ length M.modules → FirstPlaces M count all → AreAllPortPlaces M all
+first_places-all M all count whole first = record {
+  many = first.many ∙ whole;
+  each = λ k m places within. first.each k m places (omega arith);
+}
+
+pub sound-has_nets : (M : Plain) (m : PModule) → IsSoundModule M m → HasNets m
+sound-has_nets M m sound = record { rise = sound.nets_rise; below = sound.nets_below; ranges = sound.ranges }
+
+pub sound-has_ports : (M : Plain) (m : PModule) → IsSoundModule M m → HasPorts m
+sound-has_ports M m sound = record { there = sound.ports_there; differ = sound.ports_differ }

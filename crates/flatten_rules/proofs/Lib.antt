@@ -9,3 +9,5 @@ pub mod Checking
 pub mod Extents
 pub mod Within
 pub mod Unfolded
+pub mod Tracing
+pub mod Flattening

@@ -133,14 +133,14 @@ inst-id m i inst found =
     ap make same
 
 -- the occurrences below an instance
-abbrev below : Plain → List InstId → ℕ → PInst → List Occurrence
+abbrev pub below : Plain → List InstId → ℕ → PInst → List Occurrence
 below M path levels inst = unfolded M (path ++ inst.id ∷ []) inst.master levels
 
-unfolded-zero : (M : Plain) (path : List InstId) (m : ModId) → unfolded M path m 0 ≡ []
+pub unfolded-zero : (M : Plain) (path : List InstId) (m : ModId) → unfolded M path m 0 ≡ []
 unfolding unfolded
 unfolded-zero M path m = refl
 
-unfolded-step : (M : Plain) (levels : ℕ) (path : List InstId) (m : ModId) → unfolded M path m (suc levels) ≡ (path, m) ∷ flat_map (below M path levels) (insts_of (module_of M m))
+pub unfolded-step : (M : Plain) (levels : ℕ) (path : List InstId) (m : ModId) → unfolded M path m (suc levels) ≡ (path, m) ∷ flat_map (below M path levels) (insts_of (module_of M m))
 unfolding unfolded
 unfolded-step M levels path m = refl
 

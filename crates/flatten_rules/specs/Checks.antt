@@ -1,10 +1,13 @@
 -- What the checks of soundness tell one another.
 use Rattle.std.specs.Prelude.{◌≡◌, ◌≢◌, ℕ, ◌==◌, ◌<◌, List, ◌++◌, map, length, position, slice_index_or, Option, None, IsSome, All, AllPairs}
+use Rattle.std.specs.Prelude.{Vec}
+use Rattle.std.specs.declared.alloc.Global.{Global}
 use Rattle.emh_base.specs.declared.ids.NetId.{NetId}
 use Rattle.emh_base.specs.declared.plain.PNet.{PNet}
 use Rattle.emh_base.specs.declared.plain.PPort.{PPort}
 use Rattle.emh_base.specs.declared.plain.PInst.{PInst}
 use Rattle.emh_base.specs.declared.plain.PModule.{PModule}
+use Rattle.emh_base.specs.declared.plain.Plain.{Plain}
 use Rattle.flatten_rules.specs.Lookup.{net_of}
 use Rattle.flatten_rules.specs.Sound.{IsAllowed}
 
@@ -32,3 +35,9 @@ pub record ArePortPlaces (m : PModule) (places : List (Option ℕ)) : Type 0 whe
   pub many : length places ≡ length m.nets
   pub each : (k : ℕ) (net : PNet) → k < length m.nets
       → slice_index_or places k None ≡ port_place m (slice_index_or m.nets k net).id
+
+-- there are such places for each module of a table, in its order
+pub record AreAllPortPlaces (M : Plain) (all : List (Vec (Option ℕ) Global)) : Type 0 where
+  pub many : length all ≡ length M.modules
+  pub each : (k : ℕ) (m : PModule) (places : Vec (Option ℕ) Global) → k < length M.modules
+      → ArePortPlaces (slice_index_or M.modules k m) (slice_index_or all k places).items

@@ -12,4 +12,5 @@ pub mod Limits
 pub mod Extent
 pub mod Walk
 pub mod Design
+pub mod Fresh
 pub mod TwoLevel

@@ -4,7 +4,9 @@
 
 mod cell;
 mod cycle;
+mod domain;
 mod extent;
+mod flatten;
 mod laws;
 mod limits;
 mod lookup;
@@ -16,8 +18,11 @@ mod rank;
 mod reach;
 mod root;
 mod soundness;
+mod tracer;
 
 pub use cycle::first_on_cycle;
+pub use domain::{Fresh, FreshBit, FreshInst, FreshOcc, FreshPin};
+pub use flatten::fresh;
 pub use laws::{each_text_once, each_walk_once, two_level_unfolds};
 pub use limits::is_within;
 pub use lookup::{find, module_of, net_of, place_of_module, port_of, width};

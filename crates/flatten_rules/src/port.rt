@@ -1,8 +1,9 @@
 ghost use Rattle.std.specs.Prelude.{◌≡◌, ◌↔◌, ℕ, ◌<◌, ◌≤◌, length, IsSome, IfOk, IfSome};
-ghost use Rattle.flatten_rules.specs.Checks.{HasNets, HasPorts, ArePortPlaces, port_place};
+ghost use Rattle.flatten_rules.specs.Sound.{IsSound};
+ghost use Rattle.flatten_rules.specs.Checks.{HasNets, HasPorts, ArePortPlaces, AreAllPortPlaces, port_place};
 
 use crate::numbered::place_of;
-use emh_base::{NetId, NoMemory, PModule};
+use emh_base::{NetId, NoMemory, PModule, Plain};
 use std::alloc::Global;
 
 /// For each net of a module, by its place, the place of the port on it. None where the net of a port isn't there, or
@@ -41,4 +42,22 @@ pub(crate) fn port_place(holder: &PModule, places: &[Option<usize>], net: NetId)
         Some(place) => places[place],
         None => None,
     }
+}
+
+/// The places of the ports of each module of a table, in its order.
+pub(crate) fn all_port_places(
+    alloc: Global,
+    plain: &Plain,
+) -> Result<Vec<Vec<Option<usize>>>, NoMemory>
+    requires { IsSound plain.now }
+    ensures { IfOk result (λ all. AreAllPortPlaces plain.now all.items) }
+{
+    let mut all = Vec::new(alloc);
+    for holder in plain.modules.as_slice() {
+        match port_places(alloc, holder)? {
+            Some(places) => all.push(places)?,
+            None => unreachable!(),
+        }
+    }
+    Ok(all)
 }

@@ -1,6 +1,7 @@
 mod cycle;
 mod sound;
 mod tables;
+mod worked;
 
 use crate::{is_sound, is_within};
 use emh_base::{ModId, NoMemory, Plain};

@@ -2,7 +2,7 @@ ghost use Rattle.std.specs.Prelude.{◌<◌, ◌↔◌, IsTrue, All, AllPairs};
 ghost use Rattle.emh_base.specs.declared.plain.PInst.{PInst};
 ghost use Rattle.flatten_rules.specs.Lookup.{InstsRise};
 
-use super::tables::{add_module, chain, empty_table};
+use super::tables::{add_link, add_module, empty_table};
 use crate::first_on_cycle;
 use crate::numbered::rises;
 use emh_base::{NoMemory, PModule, Plain};
@@ -90,9 +90,9 @@ fn a_long_way_to_a_cycle_takes_no_time(rt: HostRuntime) -> Result<(), Fail> {
     let mut plain = empty_table(alloc);
     plain.next_module = 30_001;
     for id in 0..30_000 {
-        add_module(alloc, &mut plain, id, &[id + 1])?;
+        add_link(alloc, &mut plain, id, id + 1)?;
     }
-    add_module(alloc, &mut plain, 30_000, &[29_999])?;
+    add_link(alloc, &mut plain, 30_000, 29_999)?;
     assert_eq!(rt; first(alloc, &plain, 0)?, Some(Some(29_999)));
     Ok(())
 }

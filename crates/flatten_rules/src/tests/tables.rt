@@ -48,6 +48,28 @@ pub(crate) fn add_module(
     )
 }
 
+/// A module with one instance, of a master that has no ports.
+pub(crate) fn add_link(
+    alloc: Global,
+    plain: &mut Plain,
+    id: u32,
+    master: u32,
+) -> Result<(), NoMemory> {
+    let mut insts = List::new(alloc);
+    insts.push(PInst {
+        id: InstId(0),
+        name: name_of(alloc, 0)?,
+        master: ModId(master),
+        conns: List::new(alloc),
+    })?;
+    let inside = Inside {
+        nets: List::new(alloc),
+        ports: List::new(alloc),
+        insts,
+    };
+    add(alloc, plain, id, false, inside)
+}
+
 /// An open connection for each port of a module.
 fn all_open(alloc: Global, plain: &Plain, master: ModId) -> Result<List<Conn>, NoMemory> {
     let mut conns = List::new(alloc);
@@ -151,16 +173,11 @@ fn add(
     })
 }
 
-/// The name of these bytes.
-pub(crate) fn named(alloc: Global, name: &[u8]) -> Result<Name, NoMemory> {
-    match Name::new(alloc, name) {
-        Ok(name) => Ok(name),
-        Err(_) => Err(NoMemory),
-    }
-}
-
 /// A name for a number.
 pub(crate) fn name_of(alloc: Global, number: u32) -> Result<Name, NoMemory> {
     let text = number.to_string(alloc)?;
-    named(alloc, text.as_bytes())
+    match Name::new(alloc, text.as_bytes()) {
+        Ok(name) => Ok(name),
+        Err(_) => Err(NoMemory),
+    }
 }
