@@ -1,4 +1,5 @@
-use Rattle.std.proofs.Common.{◌≡◌, ℕ, Bool, true, false, cond, List, length, nat_lt, Option, Some, None, Ok, Err, IfSome, IfNone, inl, refl, sym, ap, ◌∙◌}
+use Rattle.std.proofs.Common.{◌≡◌, ℕ, ◌≤◌, Bool, true, false, cond, List, length, nat_lt, Option, Some, None, Ok, Err, IfSome, IfNone, inl, refl, sym, ap, ◌∙◌}
+use Rattle.std.proofs.lemmas.Bool.{ltb-false}
 use Rattle.emh_io.specs.declared.shelf.FetchFault.TheVariants.{Missing, TooLong}
 use Rattle.emh_io.specs.declared.shelf.TheConstants.{FILE_LIMIT}
 use Rattle.emh_io.specs.Files.{Files, held}
@@ -31,3 +32,9 @@ missing-none (Some bytes) e = absurd (missing-limit (nat_lt FILE_LIMIT (length b
 pub CannotFetch-missing : (holds : Option Files) (before now taken_before taken_now : ℕ) (failed : Option (List ℕ)) (name : List ℕ) → IfSome holds (λ files. IsAnswer (fetched files name) (Err Missing)) → IfNone holds (IsUntoldAnswer taken_before taken_now (Err Missing)) → CannotFetch holds before now failed name
 CannotFetch-missing None before now taken_before taken_now failed name told untold = absurd untold
 CannotFetch-missing (Some files) before now taken_before taken_now failed name told untold = inl (files, refl, missing-none (held files name) told)
+
+-- a file that is fetched isn't past the limit, whether the shelf tells its files or not
+pub short-from_fetch : (holds : Option Files) (name bytes : List ℕ) (taken_before taken_now : ℕ) → IfSome holds (λ files. IsAnswer (fetched files name) (Ok bytes)) → IfNone holds (IsUntoldAnswer taken_before taken_now (Ok bytes)) → length bytes ≤ FILE_LIMIT
+short-from_fetch None name bytes taken_before taken_now told untold = untold
+short-from_fetch (Some files) name bytes taken_before taken_now told untold =
+    ltb-false FILE_LIMIT (length bytes) (held-ok (held files name) bytes told).1

@@ -6,8 +6,8 @@ pub mod BelowLemmas
 pub mod ScriptLemmas
 pub mod GainsLemmas
 pub mod OpenLemmas
-pub mod PlainNames
-pub mod PlainOrder
-pub mod PlainSound
 pub mod Playing
 pub mod FetchLemmas
+pub mod NoModules
+pub mod OneReading
+pub mod OneSession

@@ -3,9 +3,12 @@ pub mod Pins
 pub mod Lines
 pub mod Texts
 pub mod Script
+pub mod Read
+pub mod Refusal
 pub mod Load
 pub mod Play
 pub mod Causes
 pub mod TwoLevel
 pub mod Way
 pub mod Outcome
+pub mod Law

@@ -1,33 +1,30 @@
-use Rattle.std.specs.Prelude.{◌≡◌, ℕ, ◌<◌, ◌≤◌, List, length, Option, Some, None, IfSome, if◌then◌else◌}
+use Rattle.std.specs.Prelude.{◌≡◌, ℕ, ◌<◌, ◌≤◌, List, length, Option, Some, None, if◌then◌else◌}
 use Rattle.emh_base.specs.declared.plain.PModule.{PModule}
 use Rattle.emh_base.specs.declared.ids.ModId.{ModId}
 use Rattle.emh_base.specs.declared.plain.Plain.{Plain}
 use Rattle.emh_io.specs.declared.shelf.TheConstants.{FILE_LIMIT}
-use Rattle.vlog_plain.specs.PlainFile.{IsPlainFile}
 use Rattle.flatten_rules.specs.Design.{Opens}
+use Rattle.emh_shell.specs.Opened as opened
+use Rattle.emh_shell.specs.Read.{HasTable, HasReadFault}
 use Rattle.emh_shell.specs.declared.reply.LoadReply.{LoadReply}
-use Rattle.emh_shell.specs.declared.reply.LoadReply.TheVariants.{Opened, TooLong, NotBuilt}
+use Rattle.emh_shell.specs.declared.reply.LoadReply.TheVariants.{Opened, TooLong, Faulty, NotBuilt}
 
--- What opening answers of what was read of a file, which is nothing where it wasn't: the design exactly where the table
--- may be opened at the named top.
-abbrev pub Replies : Option Plain → List ℕ → LoadReply → Type 0
-Replies None top (Opened design) = ⊥
-Replies (Some M) top (Opened design) = (design.plain ≡ M) × Opens M top design.top
-Replies None top NotBuilt = Unit {0}
-Replies (Some M) top NotBuilt = (id : ModId) → Opens M top id → ⊥
-Replies read top TooLong = ⊥
+-- the design is that of the file's table at the named top
+abbrev pub IsOpened : List ℕ → List ℕ → opened.Opened → Type 0
+IsOpened bytes top design = HasTable bytes design.plain × Opens design.plain top design.top
 
--- a file is read, if at all, as the table of its plain form
-pub record IsReading (bytes : List ℕ) (top : List ℕ) (reply : LoadReply) : Type 0 where
-  pub read : Option Plain
-  pub plain : IfSome read (IsPlainFile bytes)
-  pub replies : Replies read top reply
+-- the file has a table, which may not be opened at the named top
+pub record CannotOpen (bytes top : List ℕ) : Type 0 where
+  pub plain : Plain
+  pub has_table : HasTable bytes plain
+  pub never_opens : (id : ModId) → Opens plain top id → ⊥
 
 -- What `load` answers of a file's bytes. A file is too long exactly above 67,108,864 bytes.
 abbrev pub Loads : List ℕ → List ℕ → LoadReply → Type 0
-Loads bytes top (Opened design) = (length bytes ≤ FILE_LIMIT) × IsReading bytes top (Opened design)
+Loads bytes top (Opened design) = (length bytes ≤ FILE_LIMIT) × IsOpened bytes top design
 Loads bytes top TooLong = FILE_LIMIT < length bytes
-Loads bytes top NotBuilt = (length bytes ≤ FILE_LIMIT) × IsReading bytes top NotBuilt
+Loads bytes top (Faulty fault) = (length bytes ≤ FILE_LIMIT) × HasReadFault bytes fault
+Loads bytes top NotBuilt = (length bytes ≤ FILE_LIMIT) × CannotOpen bytes top
 
 -- the id of a module that may be a top
 abbrev pub inner_id : Option PModule → Option ModId

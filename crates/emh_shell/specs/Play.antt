@@ -4,6 +4,7 @@ use Rattle.emh_io.specs.declared.shelf.TheConstants.{FILE_LIMIT}
 use Rattle.emh_io.specs.Files.{Files, held}
 use Rattle.emh_shell.specs.Opened as opened
 use Rattle.emh_shell.specs.Pins.{pins_text}
+use Rattle.emh_shell.specs.Refusal.{refused_line, about_word, read_text}
 use Rattle.emh_shell.specs.Script.{script_of}
 use Rattle.emh_shell.specs.declared.fault.ScriptFault.{ScriptFault}
 use Rattle.emh_shell.specs.declared.fault.ScriptFault.TheVariants.{TooManyLines, BadLine, NoMemory}
@@ -11,17 +12,12 @@ use Rattle.emh_shell.specs.Load.{Loads}
 use Rattle.emh_shell.specs.declared.command.Command.{Command}
 use Rattle.emh_shell.specs.declared.command.Command.TheVariants.{Load, ReportPins}
 use Rattle.emh_shell.specs.declared.reply.LoadReply.{LoadReply}
-use Rattle.emh_shell.specs.declared.reply.LoadReply.TheVariants.{Opened, TooLong, NotBuilt}
+use Rattle.emh_shell.specs.declared.reply.LoadReply.TheVariants.{Opened, TooLong, Faulty, NotBuilt}
 use Rattle.emh_shell.specs.declared.stand.Stand.{Stand}
 
 -- `ok LINE`
 abbrev pub ok_line : ℕ → List ℕ
 ok_line line = codes "ok " ++ (decimal line ++ codes "\n")
-
--- `refused LINE CODE RULE word WORD`
-abbrev pub refused_line : ℕ → List ℕ → List ℕ → List ℕ
-refused_line line rule word =
-    codes "refused " ++ (decimal line ++ (codes " " ++ (rule ++ (codes " word " ++ (word ++ codes "\n")))))
 
 abbrev pub usage_line : List ℕ
 usage_line = codes "usage emhdb [--budget N] SCRIPT\n"
@@ -33,16 +29,18 @@ went_on s design refused = record { design = design; line = s.line + 1; refused 
 -- a refused load leaves the open design
 abbrev pub load_text : ℕ → List ℕ → LoadReply → List ℕ
 load_text line file (Opened design) = ok_line line
-load_text line file TooLong = refused_line line (codes "37 FileTooLong") file
-load_text line file NotBuilt = refused_line line (codes "40 NotBuilt") file
+load_text line file TooLong = refused_line line (about_word (codes "37 FileTooLong") file)
+load_text line file (Faulty fault) = refused_line line (read_text fault)
+load_text line file NotBuilt = refused_line line (about_word (codes "40 NotBuilt") file)
 
 abbrev pub after_load : Stand → LoadReply → Stand
 after_load s (Opened design) = went_on s (Some design) s.refused
 after_load s TooLong = went_on s s.design true
+after_load s (Faulty fault) = went_on s s.design true
 after_load s NotBuilt = went_on s s.design true
 
 abbrev pub report_text : ℕ → Option opened.Opened → List ℕ
-report_text line None = refused_line line (codes "27 NoDesign") (codes "report")
+report_text line None = refused_line line (about_word (codes "27 NoDesign") (codes "report"))
 report_text line (Some design) = ok_line line ++ pins_text design.plain design.top
 
 abbrev pub after_report : Stand → Option opened.Opened → Stand

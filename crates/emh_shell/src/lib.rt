@@ -9,6 +9,7 @@ mod load;
 mod pins;
 mod play;
 mod print;
+mod read;
 mod reply;
 mod root_text;
 mod script;
@@ -18,8 +19,8 @@ mod way;
 
 pub use command::Command;
 pub use design::Design;
-pub use fault::ScriptFault;
-pub use laws::two_level_pins;
+pub use fault::{ReadFault, ScriptFault};
+pub use laws::{each_session_once, two_level_pins};
 pub use play::run;
 pub use reply::LoadReply;
 pub use stand::Stand;

@@ -1,29 +1,36 @@
-ghost use Rattle.std.specs.Prelude.{◌≡◌, IfOk, IfSome, MatchOption};
+ghost use Rattle.std.specs.Prelude.{◌≡◌, ◌≤◌, length, IfOk, MatchOption};
 ghost use Rattle.std.specs.Option.{option_copied};
 ghost use Rattle.emh_base.specs.declared.ids.ModId.{ModId};
-ghost use Rattle.vlog_plain.specs.PlainFile.{IsPlainFile};
+ghost use Rattle.emh_io.specs.declared.shelf.TheConstants.{FILE_LIMIT};
 ghost use Rattle.flatten_rules.specs.Sound.{IsSound};
 ghost use Rattle.flatten_rules.specs.Design.{Opens, module_named};
-ghost use Rattle.emh_shell.specs.Load.{IsReading, inner_id};
+ghost use Rattle.emh_shell.specs.Load.{Loads, inner_id};
 
 use crate::design::Design;
+use crate::fault::ReadFault;
+use crate::read::read_netlist;
 use crate::reply::LoadReply;
 use emh_base::{ModId, Name, NoMemory, PModule, Plain};
 use flatten_rules::is_within;
 use std::alloc::Global;
-use vlog_plain::{PlainFault, read_plain};
+use vlog_elab::ElabFault;
+use vlog_lex::LexFault;
+use vlog_read::ParseFault;
 
-/// Reads a netlist of the plain form and opens a design at the named top.
+/// Reads a netlist and opens a design at the named top.
 pub fn open_file(alloc: Global, bytes: &[u8], top: &Name) -> Result<LoadReply, NoMemory>
-    ensures { IfOk result (IsReading bytes.now top.now) }
+    requires { length bytes.now ≤ FILE_LIMIT }
+    ensures { IfOk result (Loads bytes.now top.now) }
 {
-    match read_plain(alloc, bytes) {
+    match read_netlist(alloc, bytes) {
         Ok(plain) => match open_design(alloc, plain, top)? {
             Some(design) => Ok(LoadReply::Opened(design)),
             None => Ok(LoadReply::NotBuilt),
         },
-        Err(PlainFault::NotPlain) => Ok(LoadReply::NotBuilt),
-        Err(PlainFault::NoMemory) => Err(NoMemory),
+        Err(ReadFault::Lex(LexFault::NoMemory)) => Err(NoMemory),
+        Err(ReadFault::Parse(ParseFault::NoMemory)) => Err(NoMemory),
+        Err(ReadFault::Elab(ElabFault::NoMemory)) => Err(NoMemory),
+        Err(fault) => Ok(LoadReply::Faulty(fault)),
     }
 }
 

@@ -1,4 +1,5 @@
 use crate::design::Design;
+use crate::fault::ReadFault;
 
 /// What `load` answers to a file that could be fetched or is too long.
 #[derive(Debug, Drop)]
@@ -6,6 +7,8 @@ pub enum LoadReply {
     Opened(Design),
     /// The file has more than 67,108,864 bytes.
     TooLong,
-    /// The file isn't of the plain form, or the named top isn't there, is a leaf or takes the table past its limits.
+    /// The file's bytes have no table.
+    Faulty(ReadFault),
+    /// They have one, but the named top isn't there, is a leaf or takes the table past its limits.
     NotBuilt,
 }

@@ -9,7 +9,7 @@ use crate::command::Command;
 use crate::fault::Halt;
 use crate::load::open_file;
 use crate::pins::report_pins;
-use crate::print::{ok_line, refused_line};
+use crate::print::{faulty_line, ok_line, refused_word};
 use crate::reply::LoadReply;
 use crate::stand::Stand;
 use emh_base::{List, Name, NoMemory};
@@ -82,11 +82,15 @@ fn print_load(
         }
         LoadReply::TooLong => {
             stand.refused = true;
-            refused_line(alloc, line, b"37 FileTooLong".as_slice(), file.as_bytes())
+            refused_word(alloc, line, b"37 FileTooLong".as_slice(), file.as_bytes())
+        }
+        LoadReply::Faulty(fault) => {
+            stand.refused = true;
+            faulty_line(alloc, line, &fault)
         }
         LoadReply::NotBuilt => {
             stand.refused = true;
-            refused_line(alloc, line, b"40 NotBuilt".as_slice(), file.as_bytes())
+            refused_word(alloc, line, b"40 NotBuilt".as_slice(), file.as_bytes())
         }
     }
 }
@@ -102,7 +106,7 @@ fn print_report(alloc: Global, stand: &mut Stand) -> Result<List<u8>, NoMemory>
     match &stand.design {
         None => {
             stand.refused = true;
-            refused_line(alloc, line, b"27 NoDesign".as_slice(), b"report".as_slice())
+            refused_word(alloc, line, b"27 NoDesign".as_slice(), b"report".as_slice())
         }
         Some(design) => {
             let mut said = ok_line(alloc, line)?;

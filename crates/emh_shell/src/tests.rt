@@ -1,3 +1,5 @@
+mod reading;
+
 use crate::run;
 use emh_base::List;
 use emh_io::{Held, MemShelf, MemSink, SureShelf, SureSink, are_distinct};
@@ -54,65 +56,71 @@ fn files(alloc: Global, script: &[u8]) -> Result<List<Held>, Fail> {
     Ok(files)
 }
 
+/// The status of a run of the script `s` over files, and what it prints.
+fn played(alloc: Global, files: List<Held>) -> Result<(u8, List<u8>), Fail> {
+    are_distinct(files.as_slice())
+        .then_some(())
+        .ok_or("files of one name")?;
+    let mut shelf = SureShelf::new(alloc, files);
+    let mut out = SureSink::new(alloc, 4096);
+    let words = one_word(alloc, "s")?;
+    let status = run(alloc, words.as_slice(), &mut shelf, &mut out);
+    Ok((status, List::from_slice(alloc, out.bytes())?))
+}
+
 fn one_word(alloc: Global, word: &str) -> Result<Vec<String>, Fail> {
     let mut words = Vec::new(alloc);
     words.push(String::from_str(alloc, word)?)?;
     Ok(words)
 }
 
+/// A script, what it prints and its status.
+const SCRIPTS: &[(&[u8], &[u8], u8)] = &[
+    (EXAMPLE, EXAMPLE_TEXT, 0),
+    (b"load n1.v top\nreport pins", EXAMPLE_TEXT, 0),
+    (b"load t.v t\nreport pins\n", b"ok 1\nok 2\n", 0),
+    (b"", b"", 0),
+    (b"report pins\n", b"refused 1 27 NoDesign word report\n", 1),
+    (
+        b"load n1.v top\nreport pins\nfrobnicate\n",
+        b"bad line 3\n",
+        2,
+    ),
+    (b"\n", b"bad line 1\n", 2),
+    (b"load n1.v  top\n", b"bad line 1\n", 2),
+    (b"load n1.v 1top\n", b"bad line 1\n", 2),
+    (b"report pins\nreport pins \n", b"bad line 2\n", 2),
+    (b"load n1.v INV\n", b"refused 1 40 NotBuilt word n1.v\n", 1),
+    (
+        b"load n1.v nowhere\n",
+        b"refused 1 40 NotBuilt word n1.v\n",
+        1,
+    ),
+    (b"load n1.v t$p\n", b"refused 1 40 NotBuilt word n1.v\n", 1),
+    (
+        b"load empty.v t\nload cut.v t\nload high.v t\n",
+        b"refused 1 40 NotBuilt word empty.v\nrefused 2 48 Unexpected at 19\nrefused 3 41 BadByte at 8\n",
+        1,
+    ),
+    (
+        b"load t.v t\nload cut.v t\nreport pins\n",
+        b"ok 1\nrefused 2 48 Unexpected at 19\nok 3\n",
+        1,
+    ),
+    (
+        b"load deep.v b\nload deep.v a\nreport pins\n",
+        b"ok 1\nok 2\nok 3\n",
+        0,
+    ),
+    (b"load s top\n", b"refused 1 48 Unexpected at 0\n", 1),
+];
+
 #[test]
 fn scripts_print_what_the_plain_session_prints(rt: HostRuntime) -> Result<(), Fail> {
-    let cases: [(&[u8], &[u8], u8); 17] = [
-        (EXAMPLE, EXAMPLE_TEXT, 0),
-        (b"load n1.v top\nreport pins", EXAMPLE_TEXT, 0),
-        (b"load t.v t\nreport pins\n", b"ok 1\nok 2\n", 0),
-        (b"", b"", 0),
-        (b"report pins\n", b"refused 1 27 NoDesign word report\n", 1),
-        (
-            b"load n1.v top\nreport pins\nfrobnicate\n",
-            b"bad line 3\n",
-            2,
-        ),
-        (b"\n", b"bad line 1\n", 2),
-        (b"load n1.v  top\n", b"bad line 1\n", 2),
-        (b"load n1.v 1top\n", b"bad line 1\n", 2),
-        (b"report pins\nreport pins \n", b"bad line 2\n", 2),
-        (b"load n1.v INV\n", b"refused 1 40 NotBuilt word n1.v\n", 1),
-        (
-            b"load n1.v nowhere\n",
-            b"refused 1 40 NotBuilt word n1.v\n",
-            1,
-        ),
-        (b"load n1.v t$p\n", b"refused 1 40 NotBuilt word n1.v\n", 1),
-        (
-            b"load empty.v t\nload cut.v t\nload high.v t\n",
-            b"refused 1 40 NotBuilt word empty.v\nrefused 2 40 NotBuilt word cut.v\nrefused 3 40 NotBuilt word high.v\n",
-            1,
-        ),
-        (
-            b"load t.v t\nload cut.v t\nreport pins\n",
-            b"ok 1\nrefused 2 40 NotBuilt word cut.v\nok 3\n",
-            1,
-        ),
-        (
-            b"load deep.v b\nload deep.v a\nreport pins\n",
-            b"ok 1\nok 2\nok 3\n",
-            0,
-        ),
-        (b"load s top\n", b"refused 1 40 NotBuilt word s\n", 1),
-    ];
-    for (script, text, status) in cases {
-        let files = files(rt.alloc(), script)?;
-        assert!(rt; are_distinct(files.as_slice()));
-        let mut shelf = SureShelf::new(rt.alloc(), files);
-        let mut out = SureSink::new(rt.alloc(), 4096);
-        let words = one_word(rt.alloc(), "s")?;
-        assert_eq!(rt;
-            run(rt.alloc(), words.as_slice(), &mut shelf, &mut out),
-            status,
-            "{script:?}"
-        );
-        assert_eq!(rt; out.bytes(), text, "{script:?}");
+    for (script, text, status) in SCRIPTS {
+        let (said_status, said) = played(rt.alloc(), files(rt.alloc(), script)?)?;
+        assert_eq!(rt; said_status, *status, "{script:?}");
+        assert_eq!(rt; said.as_slice(), *text, "{script:?}");
     }
     Ok(())
 }

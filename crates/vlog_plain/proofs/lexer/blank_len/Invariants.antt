@@ -1,7 +1,0 @@
-use Rattle.std.proofs.Common.{IsTrue, take}
-use Rattle.std.specs.List.{list_all}
-use Rattle.vlog_plain.specs.Token.{is_blank}
-use Rattle.vlog_plain.proofs.lexer.blank_len.Given as goal
-
-abbrev pub invariant-loop-at : goal.invariant-loop-at
-invariant-loop-at l = IsTrue (list_all is_blank (take l.at l.bytes))
