@@ -1,5 +1,5 @@
 -- Rows of the modules that a text adds, each where its face is the next.
-use Rattle.std.proofs.Common.{arith, ◌≡◌, ◌≢◌, ℕ, ◌+◌, ◌<◌, [], ◌∷◌, ◌++◌, None, Some, Option, Bool, true, false, List, map, take, drop, length, get_or, slice_get, refl, sym, ◌∙◌, ap, cond, append_assoc}
+use Rattle.std.proofs.Common.{arith, ◌≡◌, ◌≢◌, ℕ, ◌+◌, ◌<◌, [], ◌∷◌, ◌++◌, Some, Bool, true, false, List, map, take, drop, length, get_or, slice_get, refl, sym, ◌∙◌, ap, cond, append_assoc}
 use Rattle.std.specs.Prelude.{if◌then◌else◌}
 use Rattle.std.specs.Option.{option_map}
 use Rattle.std.proofs.lemmas.List.{append-nil, length-append, length-map}

@@ -1,5 +1,5 @@
 -- Ports that are compared place by place.
-use Rattle.std.proofs.Common.{arith, ◌≡◌, ◌≢◌, ℕ, suc, ◌+◌, ◌<◌, [], ◌∷◌, None, Some, Bool, true, false, List, drop, length, get_or, slice_get, refl, sym, ◌∙◌, ap, cond}
+use Rattle.std.proofs.Common.{arith, ◌≡◌, ◌≢◌, ℕ, suc, ◌+◌, ◌<◌, [], ◌∷◌, None, Some, Bool, true, false, List, drop, length, get_or, slice_get, refl, ap}
 use Rattle.std.specs.Prelude.{◌&&◌}
 use Rattle.std.proofs.lemmas.List.{drop_more, drop_all}
 use Rattle.std.proofs.lemmas.Option.{slice_get-get_or}

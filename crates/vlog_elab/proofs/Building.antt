@@ -1,11 +1,11 @@
 -- What elaboration answers, from its parts.
-use Rattle.std.proofs.Common.{arith, ◌≡◌, ℕ, zero, suc, ◌+◌, ◌-◌, ◌<◌, ◌≤◌, [], ◌∷◌, ◌++◌, Bool, Option, Some, None, List, length, slice_get, refl, sym, ◌∙◌, ap, subst, inl, inr}
+use Rattle.std.proofs.Common.{arith, ◌≡◌, ℕ, zero, suc, ◌+◌, ◌-◌, ◌<◌, ◌≤◌, [], ◌∷◌, ◌++◌, Bool, Option, Some, None, List, length, slice_get, refl, sym, ◌∙◌, ap, inl, inr}
 use Rattle.std.specs.Prelude.{IsSomeAnd}
 use Rattle.std.proofs.lemmas.List.{length-append}
-use Rattle.std.proofs.lemmas.Option.{slice_get_within, slice_get-get_or}
+use Rattle.std.proofs.lemmas.Option.{slice_get_within}
 use Rattle.emh_base.specs.declared.plain.PModule.{PModule}
 use Rattle.emh_base.specs.declared.plain.Plain.{Plain}
-use Rattle.flatten_rules.specs.Cycle.{OnCycle, IsFirstOnCycle}
+use Rattle.flatten_rules.specs.Cycle.{IsFirstOnCycle}
 use Rattle.vlog_read.specs.declared.tree.TModule.{TModule}
 use Rattle.vlog_read.specs.declared.tree.Tree.{Tree}
 use Rattle.vlog_elab.specs.declared.face.Face.{Face}
@@ -17,7 +17,7 @@ use Rattle.vlog_elab.specs.Check.{first}
 use Rattle.vlog_elab.specs.Named.{Named, numbered}
 use Rattle.vlog_elab.specs.Faces.{added, faces, known}
 use Rattle.vlog_elab.specs.Table.{row, built}
-use Rattle.vlog_elab.specs.Elaboration.{checks, Elaborates, HasFault, IsRecursive, UnlessNoMemory}
+use Rattle.vlog_elab.specs.Elaboration.{checks, HasFault, UnlessNoMemory}
 use Rattle.vlog_elab.specs.Walk.{Found}
 use Rattle.vlog_elab.proofs.Numbering.{length-numbered}
 

@@ -1,5 +1,5 @@
 -- The first round in a module: its walks are the checks of the definition.
-use Rattle.std.proofs.Common.{arith, rules, ◌≡◌, ℕ, [], ◌∷◌, ◌++◌, None, Some, Option, Bool, List, map, refl, sym, ◌∙◌, ap, cond, subst, append_assoc, Result, Ok, Err, MatchResult, OnOk}
+use Rattle.std.proofs.Common.{◌≡◌, ℕ, [], ◌∷◌, ◌++◌, None, Bool, List, map, refl, sym, ◌∙◌, ap, append_assoc, Result, Ok, Err, MatchResult, OnOk}
 use Rattle.std.specs.List.{flat_map}
 use Rattle.std.proofs.lemmas.List.{append-nil, map-append}
 use Rattle.vlog_read.specs.declared.tree.At.{At}
@@ -13,7 +13,7 @@ use Rattle.vlog_elab.specs.Named.{Named, just_names}
 use Rattle.vlog_elab.specs.Text.{is_leaf, header_names}
 use Rattle.vlog_elab.specs.Faces.{Place, places, direction_at, wire_at, said, port_of, ports}
 use Rattle.vlog_elab.specs.Declarations.{header_checks, place_checks, direction_check, inside_checks, name_check, entry_checks, module_checks}
-use Rattle.vlog_elab.specs.Walk.{Walk, or_else, first_fault, at_end, Found, Passed, Fails, Gives, Walks, Checks}
+use Rattle.vlog_elab.specs.Walk.{or_else, first_fault, at_end, Found, Passed, Fails, Gives, Walks, Checks}
 use Rattle.vlog_elab.specs.Walks.{header_walk, place_walk, port_walk, after_place, module_walk, with_module}
 use Rattle.vlog_elab.proofs.Walking.{flat_map-push, or_else_assoc, or_else-None, first-append, walked, known-at_end, found-or, found-after, found-along}
 
@@ -107,7 +107,7 @@ ports-give leaf m names before r p q g = by_cases r g
 
 -- A module: its name, its header and declarations, and its entry.
 
-module-parts : (all_leaf : Bool) (k : Known) (m : TModule) → first (module_checks all_leaf k m)
+pub module-parts : (all_leaf : Bool) (k : Known) (m : TModule) → first (module_checks all_leaf k m)
     ≡ or_else (first (name_check (is_leaf all_leaf m) k m ∷ [])) (or_else (first (inside_checks (is_leaf all_leaf m) m)) (first (entry_checks k (ports m) m)))
 module-parts all_leaf k m =
     let a : List Check = name_check (is_leaf all_leaf m) k m ∷ [] in

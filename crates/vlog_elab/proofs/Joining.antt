@@ -1,24 +1,23 @@
 -- The second round in a module: its walk is the checks of the definition.
-use Rattle.std.proofs.Common.{arith, ◌≡◌, ◌≢◌, ℕ, zero, suc, ◌+◌, ◌≤◌, ◌<◌, [], ◌∷◌, ◌++◌, None, Some, Option, Bool, true, false, List, map, length, refl, sym, ◌∙◌, ap, cond, nat_eq, Result, Ok, Err}
-use Rattle.std.specs.Prelude.{◌||◌, ◌==◌, not, is_some, is_none, if◌then◌else◌}
-use Rattle.std.specs.List.{list_any, flat_map}
-use Rattle.std.proofs.lemmas.List.{append-nil, length-append}
+use Rattle.std.proofs.Common.{arith, ◌≡◌, suc, ◌≤◌, [], ◌∷◌, ◌++◌, None, Some, Option, true, false, List, map, length, refl, ◌∙◌, ap, nat_eq, Result, Ok, Err}
+use Rattle.std.specs.Prelude.{◌||◌, ◌==◌, not, is_some, is_none}
+use Rattle.std.specs.List.{flat_map}
+use Rattle.std.proofs.lemmas.List.{append-nil}
 use Rattle.vlog_read.specs.declared.tree.At.{At}
 use Rattle.vlog_read.specs.declared.tree.TConn.{TConn}
 use Rattle.vlog_read.specs.declared.tree.TModule.{TModule}
 use Rattle.vlog_elab.specs.declared.fault.ElabFault.{ElabFault}
 use Rattle.vlog_elab.specs.declared.face.Port.{Port}
 use Rattle.vlog_elab.specs.declared.face.Face.{Face}
-use Rattle.vlog_elab.specs.declared.scope.Net.{Net}
 use Rattle.vlog_elab.specs.declared.scope.Scope.{Scope}
-use Rattle.vlog_elab.specs.Check.{Check, first, each_after}
-use Rattle.vlog_elab.specs.Named.{Named, named, is_there, firsts}
-use Rattle.vlog_elab.specs.Steps.{Step, Declares, Places, Connects, Uses, Fits, conn_steps, steps, net_at, inst_at, met}
-use Rattle.vlog_elab.specs.Connections.{port_named, ports_named, mixes, conn_checks, step_checks, inner_checks}
-use Rattle.vlog_elab.specs.Walk.{Walk, or_else, first_fault, at_end, Found, Passed, Fails, Walks, Checks}
+use Rattle.vlog_elab.specs.Check.{first}
+use Rattle.vlog_elab.specs.Named.{Named, firsts}
+use Rattle.vlog_elab.specs.Steps.{Step, Connects, Uses, Fits, conn_steps, steps, net_at, inst_at, met}
+use Rattle.vlog_elab.specs.Connections.{port_named, ports_named, mixes, conn_checks, inner_checks}
+use Rattle.vlog_elab.specs.Walk.{first_fault, at_end, Found, Passed, Fails, Walks, Checks}
 use Rattle.vlog_elab.specs.Walks.{with_new, after_step, step_walk}
 use Rattle.vlog_elab.proofs.Naming.{firsts-append}
-use Rattle.vlog_elab.proofs.Walking.{or_else-None, found-along, fails-before, fails-then, walks-then, flat_map-push, walked, known-at_end, each_after-append}
+use Rattle.vlog_elab.proofs.Walking.{or_else-None, found-along, fails-before, fails-then, walks-then, flat_map-push, walked, known-at_end}
 
 few_named : (cs : List TConn) → length (ports_named cs) ≤ length cs
 few_named [] = omega arith

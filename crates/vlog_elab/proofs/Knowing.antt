@@ -1,5 +1,5 @@
 -- What is known of the modules before one: their names, and how it grows.
-use Rattle.std.proofs.Common.{arith, ◌≡◌, ℕ, ◌+◌, [], ◌∷◌, ◌++◌, None, Some, Option, Bool, true, false, List, map, length, refl, sym, ◌∙◌, ap, cond, append_assoc, bytes_eq}
+use Rattle.std.proofs.Common.{arith, ◌≡◌, ℕ, ◌+◌, [], ◌∷◌, ◌++◌, Some, Bool, true, false, List, map, length, refl, sym, ◌∙◌, ap, cond, append_assoc, bytes_eq}
 use Rattle.std.specs.Prelude.{◌||◌, is_some, if◌then◌else◌}
 use Rattle.std.specs.List.{list_any}
 use Rattle.std.specs.Map.{lookup}
@@ -11,14 +11,12 @@ use Rattle.emh_base.specs.declared.plain.Plain.{Plain}
 use Rattle.vlog_read.specs.declared.tree.TModule.{TModule}
 use Rattle.vlog_elab.specs.declared.face.Face.{Face}
 use Rattle.vlog_elab.specs.declared.face.Known.{Known}
-use Rattle.vlog_elab.specs.declared.fault.ElabFault.{ElabFault}
-use Rattle.vlog_elab.specs.Check.{Check, first, each_after}
-use Rattle.vlog_elab.specs.Named.{Named, named, is_there, numbered}
-use Rattle.vlog_elab.specs.Text.{is_leaf}
-use Rattle.vlog_elab.specs.Faces.{has_module, added, faces, face, row_face, known, ports}
+use Rattle.vlog_elab.specs.Check.{first, each_after}
+use Rattle.vlog_elab.specs.Named.{Named, is_there, numbered}
+use Rattle.vlog_elab.specs.Faces.{has_module, added, faces, face, row_face, known}
 use Rattle.vlog_elab.specs.Declarations.{declaration_checks}
-use Rattle.vlog_elab.specs.Walk.{Walk, first_fault, at_end}
-use Rattle.vlog_elab.specs.Walks.{module_walk, after_module, with_module}
+use Rattle.vlog_elab.specs.Walk.{first_fault, at_end}
+use Rattle.vlog_elab.specs.Walks.{module_walk, after_module}
 use Rattle.vlog_elab.proofs.Numbering.{numbered-append}
 use Rattle.vlog_elab.proofs.Naming.{or-false, one_or_not, same_name}
 use Rattle.vlog_elab.proofs.Walking.{each_after-append, walked, known-at_end}

@@ -12,3 +12,13 @@ pub mod Rising
 pub mod Building
 pub mod Meeting
 pub mod Sourcing
+pub mod Passing
+pub mod Finding
+pub mod Mentions
+pub mod Fitting
+pub mod Saying
+pub mod Header
+pub mod Connected
+pub mod Row
+pub mod Staying
+pub mod OneAnswer

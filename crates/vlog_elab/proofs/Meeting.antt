@@ -1,8 +1,8 @@
 -- Nets that are added in the order of their first mention.
-use Rattle.std.proofs.Common.{arith, ◌≡◌, ℕ, ◌+◌, ◌<◌, [], ◌∷◌, ◌++◌, Bool, List, map, take, length, get_or, refl, sym, ◌∙◌, ap}
+use Rattle.std.proofs.Common.{◌≡◌, ℕ, ◌+◌, ◌<◌, [], ◌∷◌, ◌++◌, List, map, take, length, get_or, refl, sym, ◌∙◌, ap}
 use Rattle.std.specs.Prelude.{if◌then◌else◌}
 use Rattle.std.specs.List.{flat_map}
-use Rattle.std.proofs.lemmas.List.{append-nil, map-append}
+use Rattle.std.proofs.lemmas.List.{map-append}
 use Rattle.vlog_elab.specs.Named.{Named, is_there, firsts}
 use Rattle.vlog_elab.specs.Walks.{with_new}
 use Rattle.vlog_elab.proofs.Naming.{firsts-append}

@@ -1,13 +1,11 @@
 -- The ids of the table that is built rise.
-use Rattle.std.proofs.Common.{arith, ◌≡◌, ℕ, ◌+◌, ◌<◌, ◌≤◌, [], ◌∷◌, ◌++◌, Bool, List, map, length, refl, sym, ◌∙◌, ap, subst}
+use Rattle.std.proofs.Common.{arith, ℕ, ◌<◌, ◌≤◌, ◌++◌, Bool, List, refl}
 use Rattle.std.specs.List.{All, AllPairs}
 use Rattle.std.proofs.lemmas.List.Elements.{All-append}
 use Rattle.emh_base.specs.declared.plain.PInst.{PInst}
 use Rattle.emh_base.specs.declared.plain.PModule.{PModule}
 use Rattle.emh_base.specs.declared.plain.Plain.{Plain}
 use Rattle.flatten_rules.specs.Sound.{IsSound, IsSoundModule}
-use Rattle.vlog_read.specs.declared.tree.At.{At}
-use Rattle.vlog_read.specs.declared.tree.TInst.{TInst}
 use Rattle.vlog_read.specs.declared.tree.TModule.{TModule}
 use Rattle.vlog_elab.specs.declared.face.Face.{Face}
 use Rattle.vlog_elab.specs.Named.{Named, numbered}

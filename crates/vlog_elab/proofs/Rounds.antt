@@ -1,5 +1,5 @@
 -- The first two rounds together.
-use Rattle.std.proofs.Common.{◌≡◌, [], ◌∷◌, ◌++◌, None, Some, Bool, List, map, refl, sym, ◌∙◌, ap}
+use Rattle.std.proofs.Common.{◌≡◌, [], None, Bool, List, map, refl, sym, ◌∙◌, ap}
 use Rattle.std.specs.Prelude.{if◌then◌else◌}
 use Rattle.std.specs.List.{flat_map}
 use Rattle.emh_base.specs.declared.plain.Plain.{Plain}
@@ -11,7 +11,7 @@ use Rattle.vlog_elab.specs.declared.fault.ElabFault.{ElabFault}
 use Rattle.vlog_elab.specs.Check.{Check, first}
 use Rattle.vlog_elab.specs.Named.{Named}
 use Rattle.vlog_elab.specs.Text.{is_leaf}
-use Rattle.vlog_elab.specs.Faces.{row_face, known, faces}
+use Rattle.vlog_elab.specs.Faces.{row_face, known}
 use Rattle.vlog_elab.specs.Declarations.{declaration_checks}
 use Rattle.vlog_elab.specs.Connections.{inner_checks, connection_checks}
 use Rattle.vlog_elab.specs.Elaboration.{checks}

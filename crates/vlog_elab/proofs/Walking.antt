@@ -1,13 +1,12 @@
 -- Walks: in parts, and by what stands before each item.
-use Rattle.std.proofs.Common.{arith, rules, ◌≡◌, ℕ, zero, suc, ◌+◌, ◌<◌, [], ◌∷◌, ◌++◌, None, Some, Option, Bool, true, false, List, map, take, drop, length, get_or, refl, sym, ◌∙◌, ap, subst, cond, append_assoc, Result, Ok, Err}
+use Rattle.std.proofs.Common.{◌≡◌, ℕ, ◌+◌, ◌<◌, [], ◌∷◌, ◌++◌, None, Some, Option, true, false, List, map, take, drop, length, get_or, refl, sym, ◌∙◌, ap, subst, cond, append_assoc, Result, Ok, Err}
 use Rattle.std.specs.List.{flat_map}
-use Rattle.std.proofs.lemmas.Grind.{common_steps}
 use Rattle.std.proofs.lemmas.Grind.{flat_map-append}
 use Rattle.std.proofs.lemmas.List.{append-nil, take_more, drop_more, take-append-drop, map-append}
 use Rattle.vlog_elab.specs.declared.fault.ElabFault.{ElabFault}
 use Rattle.vlog_elab.specs.declared.fault.ElabFault.TheVariants.{Fault, NoMemory}
 use Rattle.vlog_elab.specs.Check.{Check, first, each_after}
-use Rattle.vlog_elab.specs.Walk.{Walk, or_else, first_fault, at_end, Found, Passed, Fails, Walks, Checks}
+use Rattle.vlog_elab.specs.Walk.{Walk, or_else, first_fault, at_end, Found, Passed, Fails, Walks}
 
 pub or_else-None : (o : Option ElabFault) → or_else o None ≡ o
 or_else-None None = refl

@@ -1,6 +1,6 @@
 -- The walk of the second round through a module: its declarations, instances and connections, in the order of the text;
 -- and the nets and instances that are met on it.
-use Rattle.std.specs.Prelude.{ℕ, true, false, List, [], ◌∷◌, ◌++◌, map, Option, Some, None}
+use Rattle.std.specs.Prelude.{true, false, List, [], ◌∷◌, ◌++◌, map, Option, Some, None}
 use Rattle.std.specs.List.{flat_map}
 use Rattle.emh_base.specs.declared.plain.Range.{Range}
 use Rattle.vlog_read.specs.declared.tree.At.{At}

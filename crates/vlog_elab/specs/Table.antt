@@ -1,5 +1,5 @@
 -- The table that a text gives: ids, nets, ports, instances and their connections.
-use Rattle.std.specs.Prelude.{ℕ, zero, suc, ◌-◌, ◌+◌, ◌*◌, ◌/◌, ◌%◌, ◌^◌, ◌==◌, Bool, true, false, if◌then◌else◌, List, [], ◌∷◌, ◌++◌, map, find, length, slice_get, Option, Some, None, is_some, unwrap_or}
+use Rattle.std.specs.Prelude.{ℕ, zero, suc, ◌-◌, ◌+◌, ◌/◌, ◌%◌, ◌^◌, ◌==◌, Bool, true, false, if◌then◌else◌, List, [], ◌∷◌, ◌++◌, map, find, length, slice_get, Option, Some, None, is_some, unwrap_or}
 use Rattle.std.specs.List.{flat_map, range_with_len}
 use Rattle.emh_base.specs.declared.ids.ModId.{ModId}
 use Rattle.emh_base.specs.declared.ids.NetId.{NetId}

@@ -1,6 +1,6 @@
 -- A walk over items in order. Before each item something is known, by which the item is checked, and it adds to what is
 -- known.
-use Rattle.std.specs.Prelude.{◌≡◌, Bool, List, [], ◌∷◌, Option, Some, None, Result, Ok, Err}
+use Rattle.std.specs.Prelude.{◌≡◌, List, [], ◌∷◌, Option, Some, None, Result, Ok, Err}
 use Rattle.vlog_elab.specs.declared.fault.ElabFault.{ElabFault}
 use Rattle.vlog_elab.specs.declared.fault.ElabFault.TheVariants.{Fault, NoMemory}
 use Rattle.vlog_elab.specs.Check.{Check, first}

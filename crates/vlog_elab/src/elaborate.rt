@@ -27,6 +27,22 @@ pub fn elab(alloc: Global, table: &Plain, tree: &Tree, all_leaf: bool) -> Result
     requires { IsSound table.now }
     ensures table { IfOk result (Elaborates table.now all_leaf tree.now) }
     ensures fault { IfErr result (UnlessNoMemory (HasFault table.now all_leaf tree.now)) }
+    ensures sound { IfOk result IsSound }
+
+    // A tree that gives a table gives it, and a tree that has a fault gives it, unless memory is wanting.
+    ensures each_table { (made : Plain) → Elaborates table.now all_leaf tree.now made
+        → MatchResult result (λ it. it ≡ made) (UnlessNoMemory (λ _. ⊥)) }
+    ensures each_fault { (fault : ElabFault) → HasFault table.now all_leaf tree.now fault
+        → MatchResult result (λ _. ⊥) (UnlessNoMemory (λ it. it ≡ fault)) }
+{
+    rounds(alloc, table, tree, all_leaf)
+}
+
+/// The three rounds, one after the other.
+fn rounds(alloc: Global, table: &Plain, tree: &Tree, all_leaf: bool) -> Result<Plain, ElabFault>
+    requires { IsSound table.now }
+    ensures table { IfOk result (Elaborates table.now all_leaf tree.now) }
+    ensures fault { IfErr result (UnlessNoMemory (HasFault table.now all_leaf tree.now)) }
 {
     let known = checked(alloc, table, tree, all_leaf)?;
     let modules = rows_of(alloc, table, &known.faces, tree.modules.as_slice())?;

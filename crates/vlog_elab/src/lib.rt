@@ -8,6 +8,7 @@ mod declarations;
 mod elaborate;
 mod face;
 mod fault;
+mod law;
 mod modules;
 mod names;
 mod nets;
@@ -21,6 +22,7 @@ mod table;
 
 pub use elaborate::elab;
 pub use fault::{ElabFault, ElabKind};
+pub use law::one_elaboration;
 
 #[cfg(test)]
 mod tests;

@@ -1,6 +1,5 @@
 use Rattle.std.proofs.Common.{arith, ◌≡◌, ◌+◌, ◌++◌, ◌∷◌, [], sym, ◌∙◌, ap, append_assoc}
 use Rattle.std.proofs.lemmas.List.FromFn.{map-range_with_len_more}
-use Rattle.emh_base.specs.declared.plain.Src.{Src}
 use Rattle.emh_base.specs.declared.plain.Src.TheVariants.{Bit}
 use Rattle.vlog_elab.specs.Table.{net_bits}
 use Rattle.vlog_elab.proofs.bits.push_net.Goals as goal

@@ -1,4 +1,4 @@
-use Rattle.std.proofs.Common.{arith, ◌≡◌, ◌<◌, ◌/◌, ◌^◌, refl}
+use Rattle.std.proofs.Common.{arith, refl}
 use Rattle.vlog_elab.proofs.Sourcing.{past_bits}
 use Rattle.vlog_elab.proofs.bits.tie_of.Goals as goal
 

@@ -1,4 +1,4 @@
-use Rattle.std.proofs.Common.{length, refl}
+use Rattle.std.proofs.Common.{refl}
 use Rattle.vlog_elab.proofs.Joining.{mixes-order, mixes-name}
 use Rattle.vlog_elab.proofs.connections.mixes.Goals as goal
 

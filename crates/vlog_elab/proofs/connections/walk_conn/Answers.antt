@@ -1,5 +1,5 @@
 use Rattle.std.proofs.lemmas.Result.{err_from_is_err_and}
-use Rattle.vlog_elab.proofs.Joining.{connects-fails, uses-fail, conn-gives}
+use Rattle.vlog_elab.proofs.Joining.{uses-fail, conn-gives}
 use Rattle.vlog_elab.proofs.connections.walk_conn.Goals as goal
 
 pub returns-in_err-use_parts-clause-walk : goal.returns-in_err-use_parts-clause-walk

@@ -1,4 +1,4 @@
-use Rattle.std.proofs.Common.{sym, ◌∙◌, ap}
+use Rattle.std.proofs.Common.{◌∙◌, ap}
 use Rattle.vlog_elab.specs.Named.{named}
 use Rattle.vlog_elab.proofs.Sourcing.{conn-found, no_conn-found}
 use Rattle.vlog_elab.proofs.conns.conn_to.Goals as goal

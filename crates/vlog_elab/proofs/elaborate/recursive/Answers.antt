@@ -1,10 +1,5 @@
-use Rattle.std.proofs.Common.{arith, ◌≡◌, ℕ, Some, length, take, true, false, refl, sym, ◌∙◌, ap, slice_get}
-use Rattle.vlog_read.specs.declared.tree.TModule.{TModule}
-use Rattle.vlog_elab.specs.declared.fault.ElabFault.{ElabFault}
-use Rattle.vlog_elab.specs.declared.fault.ElabFault.TheVariants.{Fault}
-use Rattle.vlog_elab.specs.declared.fault.ElabKind.TheVariants.{Recursive}
+use Rattle.std.proofs.Common.{arith, ◌≡◌, Some, length, take, true, false, refl, sym, ◌∙◌, ap, slice_get}
 use Rattle.vlog_elab.specs.Faces.{added}
-use Rattle.vlog_elab.specs.Walk.{Found}
 use Rattle.vlog_elab.proofs.Adding.{count-again, count-new}
 use Rattle.vlog_elab.proofs.elaborate.recursive.Goals as goal
 

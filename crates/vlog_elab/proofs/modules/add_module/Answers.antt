@@ -1,8 +1,4 @@
-use Rattle.std.proofs.Common.{◌≡◌, [], ◌∷◌, None}
 use Rattle.std.proofs.lemmas.Result.{err_from_is_err_and}
-use Rattle.vlog_elab.specs.Check.{first}
-use Rattle.vlog_elab.specs.Text.{is_leaf}
-use Rattle.vlog_elab.specs.Declarations.{name_check}
 use Rattle.vlog_elab.proofs.Declaring.{module-fails, module-gives}
 use Rattle.vlog_elab.proofs.modules.add_module.Goals as goal
 

@@ -1,4 +1,4 @@
-use Rattle.std.proofs.Common.{arith, sym, ◌∙◌, ap}
+use Rattle.std.proofs.Common.{arith, ◌∙◌, ap}
 use Rattle.vlog_read.specs.declared.tree.TInst.{TInst}
 use Rattle.vlog_elab.specs.Table.{inst_row}
 use Rattle.vlog_elab.proofs.Numbering.{rows_after_more}

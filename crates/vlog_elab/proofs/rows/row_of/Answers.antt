@@ -1,4 +1,4 @@
-use Rattle.std.proofs.Common.{◌≡◌, length, refl, sym, ◌∙◌, ap}
+use Rattle.std.proofs.Common.{◌≡◌, length, refl, ◌∙◌, ap}
 use Rattle.vlog_elab.specs.Table.{inst_row, nets, insts}
 use Rattle.vlog_elab.proofs.Numbering.{length-numbered}
 use Rattle.vlog_elab.proofs.rows.row_of.Goals as goal

@@ -1,4 +1,4 @@
-use Rattle.std.proofs.Common.{arith, ◌≡◌, ◌<◌, ◌+◌, length, true, false, sym, ◌∙◌}
+use Rattle.std.proofs.Common.{arith, true, false, sym, ◌∙◌}
 use Rattle.vlog_elab.proofs.Alike.{lengths_differ, at_place, at_end}
 use Rattle.vlog_elab.proofs.same.same_ports.Goals as goal
 

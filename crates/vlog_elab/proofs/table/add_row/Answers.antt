@@ -1,4 +1,4 @@
-use Rattle.std.proofs.Common.{◌≡◌, sym, ◌∙◌}
+use Rattle.std.proofs.Common.{◌≡◌}
 use Rattle.vlog_elab.specs.Faces.{face}
 use Rattle.vlog_elab.proofs.Adding.{own-is}
 use Rattle.vlog_elab.proofs.table.add_row.Goals as goal

@@ -1,0 +1,9 @@
+use Rattle.vlog_elab.proofs.OneAnswer.{one_answer}
+use Rattle.vlog_elab.proofs.Staying.{stays_sound}
+use Rattle.vlog_elab.proofs.law.one_elaboration.Goals as goal
+
+pub returns-clause-one : goal.returns-clause-one
+returns-clause-one c = one_answer
+
+pub returns-clause-sound : goal.returns-clause-sound
+returns-clause-sound c = stays_sound
