@@ -1,5 +1,5 @@
 -- A file has one table or one fault, and a load of it one reply.
-use Rattle.std.proofs.Common.{◌≡◌, ℕ, ◌<◌, ◌≤◌, List, length, Option, Some, None, refl, sym, ap, subst, ◌∙◌, arith}
+use Rattle.std.proofs.Common.{◌≡◌, ℕ, ◌<◌, ◌≤◌, List, length, Option, Some, None, refl, sym, ap, ap₂, subst, ◌∙◌, arith}
 use Rattle.emh_base.specs.declared.ids.ModId.{ModId}
 use Rattle.emh_base.specs.declared.plain.PModule.{PModule}
 use Rattle.emh_base.specs.declared.plain.Plain.{Plain}
@@ -26,7 +26,7 @@ one-tree bytes tree other a b =
 one-table : (bytes : List ℕ) (plain other : Plain) → HasTable bytes plain → HasTable bytes other → plain ≡ other
 one-table bytes plain other a b =
     let same = one-tree bytes a.tree b.tree a.has_tree b.has_tree in
-    (elab.law no_modules false a.tree).one_table plain other a.elaborates (rw same b.elaborates)
+    (elab.one_answer no_modules false a.tree).one_table plain other a.elaborates (rw same b.elaborates)
 
 -- what has a tree has no fault of its tokens or grammar
 no-lex-fault : (bytes : List ℕ) (tree : Tree) (fault : _) → HasTree bytes tree → HasReadFault bytes (Lex fault) → ⊥
@@ -40,7 +40,7 @@ no-parse-fault bytes tree fault a b =
 no-elab-fault : (bytes : List ℕ) (plain : Plain) (fault : _) → HasTable bytes plain → HasElabFault bytes fault → ⊥
 no-elab-fault bytes plain fault a b =
     let same = one-tree bytes a.tree b.tree a.has_tree b.has_tree in
-    (elab.law no_modules false a.tree).not_both plain fault a.elaborates (rw same b.has_fault)
+    (elab.one_answer no_modules false a.tree).not_both plain fault a.elaborates (rw same b.has_fault)
 
 no-fault : (bytes : List ℕ) (plain : Plain) (fault : ReadFault) → HasTable bytes plain → HasReadFault bytes fault → ⊥
 no-fault bytes plain (Lex fault) a b = no-lex-fault bytes a.tree fault a.has_tree b
@@ -55,7 +55,7 @@ one-parse-fault bytes fault other a b =
 one-elab-fault : (bytes : List ℕ) (fault other : _) → HasElabFault bytes fault → HasElabFault bytes other → fault ≡ other
 one-elab-fault bytes fault other a b =
     let same = one-tree bytes a.tree b.tree a.has_tree b.has_tree in
-    (elab.law no_modules false a.tree).one_fault fault other a.has_fault (rw same b.has_fault)
+    (elab.one_answer no_modules false a.tree).one_fault fault other a.has_fault (rw same b.has_fault)
 
 one-fault : (bytes : List ℕ) (fault other : ReadFault) → HasReadFault bytes fault → HasReadFault bytes other → fault ≡ other
 one-fault bytes (Lex fault) (Lex other) a b = ap Lex (one_fault bytes fault other a b)
@@ -73,11 +73,18 @@ one-named : (found : Option PModule) (id other : ModId) → MatchOption found �
 one-named None id other a b = absurd a
 one-named (Some m) id other a b = sym a.0 ∙ b.0
 
+pair : Plain → ModId → opened.Opened
+pair plain top = record { plain = plain; top = top }
+
+same-design : (design other : opened.Opened) → design.plain ≡ other.plain → design.top ≡ other.top → design ≡ other
+unfolding pair
+same-design design other table top = ap₂ pair table top
+
 one-design : (bytes top : List ℕ) (design other : opened.Opened) → IsOpened bytes top design → IsOpened bytes top other → design ≡ other
 one-design bytes top design other a b =
     let table : design.plain ≡ other.plain = one-table bytes design.plain other.plain a.0 b.0 in
     let named = one-named (module_named design.plain top) design.top other.top a.1.named (rw table b.1.named) in
-    cc
+    same-design design other table named
 
 cannot : (bytes top : List ℕ) (design : opened.Opened) → IsOpened bytes top design → CannotOpen bytes top → ⊥
 cannot bytes top design a b =
