@@ -1,4 +1,5 @@
 mod shown;
+mod worked;
 
 use shown::{empty_table, shown, shown_over};
 use std::test::Fail;
