@@ -17,8 +17,7 @@ use Rattle.flatten_rules.specs.Sound.{IsSoundModule, IsAllowed}
 use Rattle.flatten_rules.proofs.Sound.{All-find}
 use Rattle.flatten_rules.specs.Unfolding.{module_up, inst_up}
 use Rattle.flatten_rules.specs.Root.{source_through, source_above, root_up, root_of_source, pin_root}
-use Rattle.emh_shell.specs.Pins.{root_text}
-use Rattle.flatten_rules.specs.Texts.{names_up, net_bit_text}
+use Rattle.flatten_rules.specs.Texts.{names_up, net_bit_text, root_text}
 use Rattle.emh_shell.specs.Way.{Places, HasPlaces, HasAllPlaces, IsWay, IsStep, ids_of, bit_after}
 use Rattle.emh_shell.specs.declared.way.Step.{Step}
 

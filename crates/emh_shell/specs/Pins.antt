@@ -6,17 +6,9 @@ use Rattle.emh_base.specs.declared.plain.PNet.{PNet}
 use Rattle.emh_base.specs.declared.plain.Plain.{Plain}
 use Rattle.emh_base.specs.Text.{pin_text}
 use Rattle.flatten_rules.specs.declared.root.Root.{Root}
-use Rattle.flatten_rules.specs.declared.root.Root.TheVariants.{Tie0, Tie1, Own}
 use Rattle.flatten_rules.specs.Lookup.{module_of}
 use Rattle.flatten_rules.specs.Domains.{Pin, pins, port_net, root_of_pin}
-use Rattle.flatten_rules.specs.Texts.{names_up, net_up, net_bit_text}
-
-abbrev pub root_text : Plain → ModId → Option Root → List ℕ
-root_text M top None = codes "=open"
-root_text M top (Some Tie0) = codes "=0"
-root_text M top (Some Tie1) = codes "=1"
-root_text M top (Some (Own path net offset)) =
-    net_bit_text (names_up M top (reverse path)) (net_up M top (reverse path) net) offset
+use Rattle.flatten_rules.specs.Texts.{names_up, root_text}
 
 -- a line `PIN ROOT` for a bit of the leaf at an upward path, whose port has that net
 abbrev pub bit_line : Plain → ModId → List InstId → Option PNet → ℕ → Option Root → List ℕ

@@ -6,8 +6,8 @@ ghost use Rattle.flatten_rules.specs.Lookup.{net_of};
 ghost use Rattle.flatten_rules.specs.Sound.{IsAllowed, IsSoundModule};
 ghost use Rattle.flatten_rules.specs.Unfolding.{unfolded, module_up, inst_up};
 ghost use Rattle.flatten_rules.specs.Root.{pin_root};
-ghost use Rattle.emh_shell.specs.Pins.{root_text, pins_text};
-ghost use Rattle.flatten_rules.specs.Texts.{names_up};
+ghost use Rattle.emh_shell.specs.Pins.{pins_text};
+ghost use Rattle.flatten_rules.specs.Texts.{names_up, root_text};
 ghost use Rattle.emh_shell.specs.Lines.{net_line, port_lines, leaf_lines, occurrence_lines};
 ghost use Rattle.emh_shell.specs.Way.{HasPlaces, HasAllPlaces, IsWay, ids_of, path_of, or_place, lines_below};
 

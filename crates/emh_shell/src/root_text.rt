@@ -3,7 +3,7 @@ ghost use Rattle.emh_base.specs.declared.plain.PNet.{PNet};
 ghost use Rattle.emh_base.specs.Text.{spell, index_text};
 ghost use Rattle.flatten_rules.specs.Lookup.{net_of};
 ghost use Rattle.flatten_rules.specs.Root.{source_through, root_up, root_of_source, pin_root};
-ghost use Rattle.emh_shell.specs.Pins.{root_text};
+ghost use Rattle.flatten_rules.specs.Texts.{root_text};
 ghost use Rattle.emh_shell.specs.Way.{HasPlaces, IsWay, ids_of, bit_after};
 
 use crate::design::Design;

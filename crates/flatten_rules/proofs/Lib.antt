@@ -11,3 +11,7 @@ pub mod Within
 pub mod Unfolded
 pub mod Tracing
 pub mod Flattening
+pub mod OneOrder
+pub mod Naming
+pub mod FlatNetlist
+pub mod BlockNets

@@ -1,7 +1,9 @@
 -- What the occurrence domain and the block domain hold, unfolded afresh from a table and its top. After OpenAccess, in
 -- outline: occurrences have nets, and the block is the flat netlist of the leaf occurrences.
-use Rattle.std.specs.Prelude.{◌≡◌, ℕ, Bool, false, List, [], reverse, map, Option, Some, None, Contains, if◌then◌else◌}
+use Rattle.std.specs.Prelude.{◌≡◌, ◌↔◌, ℕ, ◌==◌, Bool, false, ◌&&◌, List, [], reverse, map, Option, Some, None, Contains, if◌then◌else◌}
 use Rattle.std.specs.List.{flat_map, filter, range_with_len}
+use Rattle.std.specs.Ordering.{is_eq}
+use Rattle.emh_base.specs.Path.{path_cmp}
 use Rattle.emh_base.specs.declared.ids.ModId.{ModId}
 use Rattle.emh_base.specs.declared.ids.NetId.{NetId}
 use Rattle.emh_base.specs.declared.ids.InstId.{InstId}
@@ -10,7 +12,7 @@ use Rattle.emh_base.specs.declared.plain.PPort.{PPort}
 use Rattle.emh_base.specs.declared.plain.PModule.{PModule}
 use Rattle.emh_base.specs.declared.plain.Plain.{Plain}
 use Rattle.flatten_rules.specs.declared.root.Root.{Root}
-use Rattle.flatten_rules.specs.declared.root.Root.TheVariants.{Own}
+use Rattle.flatten_rules.specs.declared.root.Root.TheVariants.{Tie0, Tie1, Own}
 use Rattle.flatten_rules.specs.Lookup.{module_of, net_of, width_of}
 use Rattle.flatten_rules.specs.Unfolding.{Occurrence, occurrences}
 use Rattle.flatten_rules.specs.Root.{root_up, pin_root}
@@ -53,6 +55,20 @@ block_instances M top = filter (λ (o : Occurrence). is_leaf (module_of M o.1)) 
 pub record IsBlockNet (M : Plain) (top : ModId) (bit : NetBit) : Type 0 where
   pub there : Contains (net_bits M top) bit
   pub own : root_of M top bit ≡ Own bit.path bit.net bit.offset
+
+-- a root is the net bit itself
+abbrev pub is_own : NetBit → Root → Bool
+is_own bit Tie0 = false
+is_own bit Tie1 = false
+is_own bit (Own path net offset) = is_eq (path_cmp path bit.path) && net.0 == bit.net.0 && offset == bit.offset
+
+-- the block nets, in the order of the net bits
+abbrev pub block_nets : Plain → ModId → List NetBit
+block_nets M top = filter (λ (bit : NetBit). is_own bit (root_of M top bit)) (net_bits M top)
+
+-- the law of block nets: those of the list are the block nets
+abbrev pub EachBlockNet : Type 0
+EachBlockNet = (M : Plain) (top : ModId) (bit : NetBit) → Contains (block_nets M top) bit ↔ IsBlockNet M top bit
 
 -- a pin of a block instance: one bit of a port of its master
 pub record Pin : Type 0 where

@@ -1,5 +1,5 @@
 -- What is computed afresh, as lists of the parts of both domains.
-use Rattle.std.specs.Prelude.{List, [], map, Some, if◌then◌else◌}
+use Rattle.std.specs.Prelude.{ℕ, List, [], ◌++◌, map, Some, codes, if◌then◌else◌}
 use Rattle.std.specs.List.{flat_map}
 use Rattle.emh_base.specs.declared.ids.ModId.{ModId}
 use Rattle.emh_base.specs.declared.placement.Placement.{Placement}
@@ -14,6 +14,7 @@ use Rattle.flatten_rules.specs.declared.domain.FreshPin.{FreshPin}
 use Rattle.flatten_rules.specs.Lookup.{module_of}
 use Rattle.flatten_rules.specs.Unfolding.{Occurrence}
 use Rattle.flatten_rules.specs.Domains.{NetBit, Pin, offsets, is_leaf, ports_of, pins_of_port, root_of, root_of_pin}
+use Rattle.flatten_rules.specs.Texts.{PinAt, text_of, root_text}
 
 abbrev pub fresh_occ : Occurrence → FreshOcc
 fresh_occ o = record { path = o.0; «module» = o.1 }
@@ -25,9 +26,15 @@ occ_of occ = (occ.path, occ.«module»)
 abbrev pub fresh_bit : Plain → ModId → NetBit → FreshBit
 fresh_bit M top bit = record { path = bit.path; net = bit.net; offset = bit.offset; root = root_of M top bit }
 
+abbrev pub net_bit_of : FreshBit → NetBit
+net_bit_of bit = record { path = bit.path; net = bit.net; offset = bit.offset }
+
 -- a block instance with its placement
 abbrev pub fresh_inst : places.FinMap path_cmp Placement → Occurrence → FreshInst
 fresh_inst P o = record { path = o.0; master = o.1; placement = places.get P o.0 }
+
+abbrev pub inst_of : FreshInst → Occurrence
+inst_of inst = (inst.path, inst.master)
 
 -- a pin with its root
 abbrev pub fresh_pin : Plain → ModId → Pin → FreshPin
@@ -39,3 +46,8 @@ pins_of_net o net = map (λ offset. record { inst = o; port = net.id; offset = o
 
 abbrev pub pins_inside : Plain → Occurrence → List Pin
 pins_inside M o = if is_leaf (module_of M o.1) then flat_map (pins_of_port M o) (ports_of (module_of M o.1)) else []
+
+-- the line of a pin in the flat netlist
+abbrev pub fresh_pin_line : Plain → ModId → FreshPin → List ℕ
+fresh_pin_line M top pin =
+    codes "pin " ++ (text_of M top (PinAt pin.path pin.port pin.offset) ++ (codes " " ++ root_text M top pin.root))

@@ -13,4 +13,6 @@ pub mod Extent
 pub mod Walk
 pub mod Design
 pub mod Fresh
+pub mod Sorted
+pub mod FlatLines
 pub mod TwoLevel

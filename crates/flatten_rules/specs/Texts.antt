@@ -10,6 +10,8 @@ use Rattle.emh_base.specs.declared.plain.PModule.{PModule}
 use Rattle.emh_base.specs.declared.plain.Plain.{Plain}
 use Rattle.emh_base.specs.Name.{IsName}
 use Rattle.emh_base.specs.Text.{path_text, bit_text, pin_text}
+use Rattle.flatten_rules.specs.declared.root.Root.{Root}
+use Rattle.flatten_rules.specs.declared.root.Root.TheVariants.{Tie0, Tie1, Own}
 use Rattle.flatten_rules.specs.Lookup.{net_of, width_of}
 use Rattle.flatten_rules.specs.Unfolding.{module_up, inst_up}
 use Rattle.flatten_rules.specs.Domains.{NetBit}
@@ -54,6 +56,14 @@ abbrev pub text_of : Plain → ModId → Named → List ℕ
 text_of M top (PathAt path) = path_text (names_up M top (reverse path))
 text_of M top (BitAt bit) = net_bit_text (names_up M top (reverse bit.path)) (net_up M top (reverse bit.path) bit.net) bit.offset
 text_of M top (PinAt path port offset) = port_bit_text (names_up M top (reverse path)) (net_up M top (reverse path) port) offset
+
+-- what a pin leads to: a net bit, a tie or nothing
+abbrev pub root_text : Plain → ModId → Option Root → List ℕ
+root_text M top None = codes "=open"
+root_text M top (Some Tie0) = codes "=0"
+root_text M top (Some Tie1) = codes "=1"
+root_text M top (Some (Own path net offset)) =
+    net_bit_text (names_up M top (reverse path)) (net_up M top (reverse path) net) offset
 
 -- all names are names, as the type of names has it
 pub record HasNames (m : PModule) : Type 0 where

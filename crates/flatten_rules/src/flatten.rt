@@ -34,11 +34,32 @@ pub fn fresh(alloc: Global, plain: &Plain, top: ModId, places: &Places) -> Resul
         top,
         ports: &ports,
     };
+    unfold(alloc, &tracer, places)
+}
+
+/// The same by a tracer of that table and top.
+pub(crate) fn unfold(alloc: Global, tracer: &Tracer, places: &Places) -> Result<Fresh, NoMemory>
+    requires sound { IsSound tracer.now.plain.now }
+    requires ports { AreAllPortPlaces tracer.now.plain.now tracer.now.ports.now }
+    ensures occs { IfOk result (λ made. made.occs ≡ map fresh_occ (occurrences tracer.now.plain.now tracer.now.top)) }
+    ensures bits { IfOk result (λ made. made.bits ≡ map (fresh_bit tracer.now.plain.now tracer.now.top)
+        (net_bits tracer.now.plain.now tracer.now.top)) }
+    ensures insts { IfOk result (λ made. made.insts ≡ map (fresh_inst places.now)
+        (block_instances tracer.now.plain.now tracer.now.top)) }
+    ensures pins { IfOk result (λ made. made.pins ≡ map (fresh_pin tracer.now.plain.now tracer.now.top)
+        (pins tracer.now.plain.now tracer.now.top)) }
+{
     let mut occs = List::new(alloc);
-    push_below(plain, &Path::new(alloc), top, LEVELS, &mut occs)?;
-    let bits = bits_of(alloc, &tracer, occs.as_slice())?;
-    let insts = insts_of(alloc, &tracer, places, occs.as_slice())?;
-    let pins = pins_of(alloc, &tracer, occs.as_slice())?;
+    push_below(
+        tracer.plain,
+        &Path::new(alloc),
+        tracer.top,
+        LEVELS,
+        &mut occs,
+    )?;
+    let bits = bits_of(alloc, tracer, occs.as_slice())?;
+    let insts = insts_of(alloc, tracer, places, occs.as_slice())?;
+    let pins = pins_of(alloc, tracer, occs.as_slice())?;
     Ok(Fresh {
         occs,
         bits,

@@ -1,3 +1,4 @@
+ghost use Rattle.flatten_rules.specs.Domains.{EachBlockNet};
 ghost use Rattle.flatten_rules.specs.Texts.{EachTextOnce};
 ghost use Rattle.flatten_rules.specs.TwoLevel.{TwoLevelUnfolds};
 ghost use Rattle.flatten_rules.specs.Walk.{EachWalkOnce};
@@ -17,4 +18,10 @@ pub fn each_text_once()
 /// once, with the id of that module. The contract is what this is for.
 pub fn each_walk_once()
     ensures { EachWalkOnce }
+{}
+
+/// The law of block nets: the list of them has exactly the net bits that lead no further up. The contract is what this is
+/// for.
+pub fn each_block_net()
+    ensures { EachBlockNet }
 {}

@@ -1,4 +1,5 @@
 mod cycle;
+mod lines;
 mod sound;
 mod tables;
 mod worked;

@@ -24,7 +24,7 @@ impl<'a> Tracer<'a> {
     /// The module at the end of a path.
     #[cycle(at)]
     #[tactic(auto, unfolding(crate::specs::Unfolding::module_up))]
-    fn module_at(&self, path: &[InstId]) -> Option<&'a PModule>
+    pub fn module_at(&self, path: &[InstId]) -> Option<&'a PModule>
         requires { IsSound self.now.plain.now }
         ensures { option_copied result ≡ module_up self.now.plain.now self.now.top (reverse path.now) }
     {
@@ -39,7 +39,7 @@ impl<'a> Tracer<'a> {
 
     /// The last instance of a path, given apart.
     #[cycle(at)]
-    fn inst_at(&self, up: &[InstId], last: InstId) -> Option<&'a PInst>
+    pub fn inst_at(&self, up: &[InstId], last: InstId) -> Option<&'a PInst>
         requires { IsSound self.now.plain.now }
         ensures { option_copied result ≡ inst_up self.now.plain.now self.now.top last (reverse up.now) }
     {

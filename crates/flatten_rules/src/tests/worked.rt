@@ -1,6 +1,6 @@
-ghost use Rattle.std.specs.Prelude.{◌≡◌, IsTrue};
+ghost use Rattle.std.specs.Prelude.{◌≡◌, IsTrue, IfOk};
 ghost use Rattle.flatten_rules.specs.Lookup.{module_of};
-ghost use Rattle.flatten_rules.specs.Design.{IsInner};
+ghost use Rattle.flatten_rules.specs.Design.{IsInner, IsGood};
 ghost use Rattle.flatten_rules.specs.Sound.{IsSound};
 
 use super::tables::name_of;
@@ -21,16 +21,24 @@ fn unfold_at(
     top: u32,
     places: &Places,
 ) -> Result<Option<Fresh>, NoMemory> {
+    if is_good(alloc, plain, ModId(top))? {
+        Ok(Some(fresh(alloc, plain, ModId(top), places)?))
+    } else {
+        Ok(None)
+    }
+}
+
+/// Whether a table is sound, within the limits at a top, and the top is no leaf.
+pub(crate) fn is_good(alloc: Global, plain: &Plain, top: ModId) -> Result<bool, NoMemory>
+    ensures { IfOk result (λ good. IsTrue good → IsGood plain.now top) }
+{
     if !is_sound(alloc, plain)? {
-        return Ok(None);
+        return Ok(false);
     }
-    if !is_within(alloc, plain, ModId(top))? {
-        return Ok(None);
+    if !is_within(alloc, plain, top)? {
+        return Ok(false);
     }
-    if !is_inner(plain, ModId(top)) {
-        return Ok(None);
-    }
-    Ok(Some(fresh(alloc, plain, ModId(top), places)?))
+    Ok(is_inner(plain, top))
 }
 
 fn is_inner(plain: &Plain, id: ModId) -> bool
@@ -274,7 +282,12 @@ fn path_of(alloc: Global, steps: &[u32]) -> Result<Path, NoMemory> {
 }
 
 /// The text of what a table unfolds to, where two paths are placed.
-fn text_at(alloc: Global, plain: &Plain, top: u32, placed: &[u32]) -> Result<String, Fail> {
+pub(crate) fn text_at(
+    alloc: Global,
+    plain: &Plain,
+    top: u32,
+    placed: &[u32],
+) -> Result<String, Fail> {
     let mut places = Places::new(alloc);
     places.set(path_of(alloc, placed)?, placement(7))?;
     places.set(path_of(alloc, &[0])?, placement(9))?;

@@ -2,8 +2,7 @@ use Rattle.std.proofs.Common.{◌≡◌, ◌++◌, [], ◌∷◌, reverse, sym}
 use Rattle.std.proofs.lemmas.List.{length-reverse}
 use Rattle.flatten_rules.specs.Root.{pin_root}
 use Rattle.emh_base.specs.Text.{pin_text}
-use Rattle.emh_shell.specs.Pins.{root_text}
-use Rattle.flatten_rules.specs.Texts.{names_up}
+use Rattle.flatten_rules.specs.Texts.{names_up, root_text}
 use Rattle.emh_shell.specs.Lines.{net_line}
 use Rattle.emh_shell.specs.Way.{ids_of}
 use Rattle.emh_shell.proofs.TextLemmas.{line-parts}
