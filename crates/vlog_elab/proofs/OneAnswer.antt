@@ -1,4 +1,4 @@
--- A tree has one answer, and what was answered is it.
+-- A tree has no two answers, and what was answered is the one that it has.
 use Rattle.std.proofs.Common.{arith, ◌≡◌, ℕ, ◌+◌, ◌≤◌, ◌<◌, Bool, Option, Some, None, length, slice_get, refl, sym, ◌∙◌, ap, inl, inr, ⊎_elim}
 use Rattle.std.specs.Prelude.{Result, Ok, Err, IfOk, IfErr, MatchResult, IsSomeAnd}
 use Rattle.std.proofs.lemmas.Bool.{cases_lt}
@@ -17,7 +17,7 @@ use Rattle.vlog_elab.specs.Check.{first}
 use Rattle.vlog_elab.specs.Faces.{added}
 use Rattle.vlog_elab.specs.Table.{built}
 use Rattle.vlog_elab.specs.Elaboration.{checks, Elaborates, HasFault, IsRecursive, UnlessNoMemory}
-use Rattle.vlog_elab.specs.Law.{EachHasOneAnswer}
+use Rattle.vlog_elab.specs.Law.{EachHasAtMostOneAnswer}
 use Rattle.vlog_elab.proofs.Staying.{stays_sound}
 
 -- where a place holds a module on a cycle, none before it does, and no other place is the first
@@ -67,7 +67,7 @@ one_fault M all_leaf tree some other (inl one) (inr two) = absurd (none_and_some
 one_fault M all_leaf tree some other (inr one) (inl two) = absurd (none_and_some (first (checks M all_leaf tree)) other one.passed two)
 one_fault M all_leaf tree some other (inr one) (inr two) = one_recursive M all_leaf tree some other one two
 
-pub one_answer : EachHasOneAnswer
+pub one_answer : EachHasAtMostOneAnswer
 one_answer M all_leaf tree = record {
   not_both = not_both M all_leaf tree;
   one_table = one_table M all_leaf tree;

@@ -6,15 +6,15 @@ use Rattle.vlog_read.specs.declared.tree.Tree.{Tree}
 use Rattle.vlog_elab.specs.declared.fault.ElabFault.{ElabFault}
 use Rattle.vlog_elab.specs.Elaboration.{Elaborates, HasFault}
 
--- over a table a tree gives a table or has a fault, never both, and only one table or one fault
-pub record HasOneAnswer (M : Plain) (all_leaf : Bool) (tree : Tree) : Type 0 where
+-- over a table a tree never gives a table and has a fault, gives only one table, and has only one fault
+pub record HasAtMostOneAnswer (M : Plain) (all_leaf : Bool) (tree : Tree) : Type 0 where
   pub not_both : (plain : Plain) (fault : ElabFault) → Elaborates M all_leaf tree plain → HasFault M all_leaf tree fault → ⊥
   pub one_table : (some other : Plain) → Elaborates M all_leaf tree some → Elaborates M all_leaf tree other → some ≡ other
   pub one_fault : (some other : ElabFault) → HasFault M all_leaf tree some → HasFault M all_leaf tree other → some ≡ other
 
--- each tree has one answer
-abbrev pub EachHasOneAnswer : Type 0
-EachHasOneAnswer = (M : Plain) (all_leaf : Bool) (tree : Tree) → HasOneAnswer M all_leaf tree
+-- no tree has two answers
+abbrev pub EachHasAtMostOneAnswer : Type 0
+EachHasAtMostOneAnswer = (M : Plain) (all_leaf : Bool) (tree : Tree) → HasAtMostOneAnswer M all_leaf tree
 
 -- from a sound table the result is sound
 abbrev pub StaysSound : Type 0

@@ -36,11 +36,9 @@ endmodule
 
 const RISING_BUS: &[u8] = b"module C7 (input [0:6] D); endmodule";
 
-const JOINED: &[u8] =
-    b"module t(a,b); input [3:0] a,b; C7 u(.D({a[0],4'h3,b[2:1]})); endmodule";
+const JOINED: &[u8] = b"module t(a,b); input [3:0] a,b; C7 u(.D({a[0],4'h3,b[2:1]})); endmodule";
 
-const TOO_NARROW: &[u8] =
-    b"module t(a,b); input [3:0] a,b; C7 u(.D({a[0],4'h3,b[2]})); endmodule";
+const TOO_NARROW: &[u8] = b"module t(a,b); input [3:0] a,b; C7 u(.D({a[0],4'h3,b[2]})); endmodule";
 
 const ESCAPED: &[u8] = b"module t (); wire \\a/b ; wire \\wire ; wire \\bus[3] ; wire [3:0] bus; \
 INV \\x.y (.A(\\bus[3] ), .Y(bus[3])); endmodule";
