@@ -254,11 +254,10 @@ fn place<'a>(
     if scope.nets.contains(&name.name) {
         return Err(fault(ElabKind::NameTaken, name));
     }
-    if scope.insts.contains(&name.name) {
-        return Err(fault(ElabKind::NameTaken, name));
+    if scope.insts.push_new(&name.name, ())? {
+        return Ok(());
     }
-    scope.insts.push(&name.name, ())?;
-    Ok(())
+    Err(fault(ElabKind::NameTaken, name))
 }
 
 /// Looks at the port that a connection is to; `seen` has the ports that were named before.
@@ -328,11 +327,10 @@ fn by_name<'a>(
     if !ports.contains(&name.name) {
         return Err(fault(ElabKind::UnknownPort, name));
     }
-    if seen.contains(&name.name) {
-        return Err(fault(ElabKind::PortTwice, name));
+    if seen.push_new(&name.name, ())? {
+        return Ok(());
     }
-    seen.push(&name.name, ())?;
-    Ok(())
+    Err(fault(ElabKind::PortTwice, name))
 }
 
 /// Takes a part of an expression.
