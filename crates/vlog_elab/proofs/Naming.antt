@@ -1,16 +1,15 @@
 -- Names with values: what is found after one more, and where.
-use Rattle.std.proofs.Common.{arith, ◌≡◌, ℕ, suc, ◌+◌, ◌-◌, ◌<◌, ◌≤◌, [], ◌∷◌, ◌++◌, None, Some, Option, Bool, true, false, List, Bor, length, slice_get, is_some, refl, sym, ◌∙◌, ap, cond, append_assoc}
-use Rattle.std.specs.BTreeMap.{BTreeMap, UpdatesBy}
+use Rattle.std.proofs.Common.{arith, ◌≡◌, ℕ, suc, ◌+◌, ◌-◌, ◌<◌, ◌≤◌, [], ◌∷◌, ◌++◌, None, Some, Option, Bool, true, false, List, Bor, take, length, slice_get, is_some, is_eq, unwrap_or, refl, sym, ◌∙◌, ap, cond, append_assoc}
+use Rattle.std.specs.BTreeMap.{BTreeMap, get_by}
 use Rattle.std.specs.Cmp.Lexicographic.{slice_cmp}
 use Rattle.std.specs.List.{position_from}
 use Rattle.std.specs.Option.{option_map}
 use Rattle.std.proofs.Common.{nat_cmp}
 use Rattle.std.specs.Map.{lookup}
 use Rattle.std.specs.Str.{bytes_eq}
-use Rattle.std.proofs.lemmas.Map.Text.{btree_map_updates_str}
 use Rattle.std.proofs.lemmas.Slice.Eq.{bytes_eq-Decides}
 use Rattle.std.proofs.lemmas.Grind.{common_steps}
-use Rattle.std.specs.Prelude.{◌||◌, if◌then◌else◌}
+use Rattle.std.specs.Prelude.{◌||◌, not, if◌then◌else◌}
 use Rattle.std.proofs.Math.Bool.{or_assoc}
 use Rattle.std.proofs.lemmas.List.{length-map, append-nil}
 use Rattle.std.proofs.lemmas.Bool.Decides.{same_from_decides}
@@ -114,13 +113,54 @@ agrees-push_again m es fs k v old there made q =
 -- the entries grow at the end by a new name, whose place goes into the map
 pub agrees-push_first : {V : Type 0} (m n : BTreeMap (Bor (List ℕ)) ℕ) (es fs : List (Bor (List ℕ) × V)) (k : Bor (List ℕ)) (key : List ℕ) (v : V) (place : ℕ)
     → key ≡ k.now → Agrees m es → is_there (texts es) k.now ≡ false → fs ≡ es ++ (k, v) ∷ [] → place ≡ length es
-    → UpdatesBy (λ x y. slice_cmp nat_cmp x.now y.now) (λ y. slice_cmp nat_cmp key y.now) m n (Some place) → Agrees n fs
+    → ((q : List ℕ) → get_by (λ k. slice_cmp nat_cmp q k.now) n ≡ cond (bytes_eq key q) (Some place) (get_by (λ k. slice_cmp nat_cmp q k.now) m)) → Agrees n fs
 agrees-push_first {V} m n es fs k key v place same old fresh made here updates q =
     let now : texts fs ≡ texts es ++ (k.now, v) ∷ [] = ap texts made ∙ texts-push es (k, v) in
     let last : place ≡ length (texts es) = here ∙ sym (simp length-map) in
-    btree_map_updates_str key m n (Some place) updates q
+    updates q
     ∙ (rw (old q, last, same) (sym (place-push_first (texts es) (k.now, v) q fresh)))
     ∙ sym (ap (λ es. place_of es q) now)
+
+-- the map gets the place that it has
+pub agrees-kept : {V : Type 0} (m n : BTreeMap (Bor (List ℕ)) ℕ) (es : List (Bor (List ℕ) × V)) (key : List ℕ) (first : ℕ)
+    → Agrees m es → place_of (texts es) key ≡ Some first
+    → ((q : List ℕ) → get_by (λ k. slice_cmp nat_cmp q k.now) n ≡ cond (bytes_eq key q) (Some first) (get_by (λ k. slice_cmp nat_cmp q k.now) m)) → Agrees n es
+agrees-kept {V} m n es key first old here updates q = updates q ∙ at_b (bytes_eq key q) refl
+  where
+    at_b : (b : Bool) → bytes_eq key q ≡ b → cond b (Some first) (get_by (λ k. slice_cmp nat_cmp q k.now) m) ≡ place_of (texts es) q
+    at_b false f = old q
+    at_b true f = let same : key ≡ q = same_name key q f in sym here ∙ ap (place_of (texts es)) same
+
+-- the entries grow at the end by a name, whose place goes into the map where it has none
+pub agrees-push : {V : Type 0} (m n : BTreeMap (Bor (List ℕ)) ℕ) (es fs : List (Bor (List ℕ) × V)) (k : Bor (List ℕ)) (key : List ℕ) (v : V) (place first : ℕ)
+    → key ≡ k.now → Agrees m es → fs ≡ es ++ (k, v) ∷ [] → place ≡ length es
+    → first ≡ unwrap_or (get_by (λ y. slice_cmp nat_cmp key y.now) m) place
+    → ((q : List ℕ) → get_by (λ k. slice_cmp nat_cmp q k.now) n ≡ cond (bytes_eq key q) (Some first) (get_by (λ k. slice_cmp nat_cmp q k.now) m)) → Agrees n fs
+agrees-push {V} m n es fs k key v place first same old made here says updates = at_o (place_of (texts es) k.now) refl
+  where
+    found : get_by (λ y. slice_cmp nat_cmp key y.now) m ≡ place_of (texts es) k.now
+    found = old key ∙ ap (place_of (texts es)) same
+
+    at_o : (o : Option ℕ) → place_of (texts es) k.now ≡ o → Agrees n fs
+    at_o (Some p) e =
+        let is : first ≡ p = says ∙ ap (λ o. unwrap_or o place) (found ∙ e) in
+        let kept : Agrees n es = agrees-kept m n es key first old (ap (place_of (texts es)) same ∙ e ∙ ap Some (sym is)) updates in
+        agrees-push_again n es fs k v kept (is_there-place 0 k.now (texts es) ∙ ap is_some e) made
+    at_o None e =
+        let is : first ≡ place = says ∙ ap (λ o. unwrap_or o place) (found ∙ e) in
+        agrees-push_first m n es fs k key v place same old (is_there-place 0 k.now (texts es) ∙ ap is_some e) made here (rw is at updates)
+
+-- a map with the same entries
+pub agrees-unchanged : {V : Type 0} (m n : BTreeMap (Bor (List ℕ)) ℕ) (es : List (Bor (List ℕ) × V)) → Agrees m es → n.entries ≡ m.entries → Agrees n es
+agrees-unchanged m n es old same q = ap (lookup (λ k. is_eq (slice_cmp nat_cmp q k.now))) same ∙ old q
+
+-- a new name is pushed
+pub new-pushed : {V : Type 0} (es : List (List ℕ × V)) (e : List ℕ × V) → true ≡ not (is_there es e.0) → with_new es (e ∷ []) ≡ es ++ e ∷ []
+new-pushed {V} es e h = at_b (is_there es e.0) h
+  where
+    at_b : (b : Bool) → true ≡ not b → cond b es (es ++ e ∷ []) ≡ es ++ e ∷ []
+    at_b false h = refl
+    at_b true h = absurd (cc h)
 
 -- a name without a place isn't there
 pub there-None : {V : Type 0} (q : List ℕ) (es : List (List ℕ × V)) → place_of es q ≡ None → named es q ≡ None
@@ -226,3 +266,46 @@ place-new {V} es fs e new =
 pub item-after : {X : Type 0} (xs ys : List X) (x : X) → slice_get (xs ++ x ∷ ys) (length xs) ≡ Some x
 item-after [] ys x = refl
 item-after (y ∷ xs) ys x = item-after xs ys x
+
+-- The place of a name that is pushed: the one that it has, or else the one after all.
+
+pub fresh-place : {V : Type 0} (es : List (List ℕ × V)) (q : List ℕ) (place first : ℕ) → place ≡ length es → first ≡ unwrap_or (place_of es q) place → first ≡ place → is_there es q ≡ false
+fresh-place {V} es q place first here says last = is_there-place 0 q es ∙ at_o (place_of es q) refl
+  where
+    at_o : (o : Option ℕ) → place_of es q ≡ o → is_some o ≡ false
+    at_o None e = refl
+    at_o (Some p) e =
+        let is : first ≡ p = says ∙ ap (λ o. unwrap_or o place) e in
+        let below : p < length es = place-below es q p e in
+        absurd (omega (arith, below, is, here, last))
+
+pub old-place : {V : Type 0} (es : List (List ℕ × V)) (q : List ℕ) (place first : ℕ) → first ≡ unwrap_or (place_of es q) place → (first ≡ place → ⊥) → place_of es q ≡ Some first
+old-place {V} es q place first says apart = at_o (place_of es q) refl
+  where
+    at_o : (o : Option ℕ) → place_of es q ≡ o → place_of es q ≡ Some first
+    at_o None e = absurd (apart (says ∙ ap (λ o. unwrap_or o place) e))
+    at_o (Some p) e = let is : first ≡ p = says ∙ ap (λ o. unwrap_or o place) e in e ∙ ap Some (sym is)
+
+pub old-there : {V : Type 0} (es : List (List ℕ × V)) (q : List ℕ) (first : ℕ) → place_of es q ≡ Some first → is_there es q ≡ true
+old-there es q first h = is_there-place 0 q es ∙ ap is_some h
+
+-- the same, where the map has the places
+pub fresh-push : {V : Type 0} (m : BTreeMap (Bor (List ℕ)) ℕ) (es : List (Bor (List ℕ) × V)) (q key : List ℕ) (place first : ℕ) → key ≡ q → Agrees m es → place ≡ length es
+    → first ≡ unwrap_or (get_by (λ y. slice_cmp nat_cmp key y.now) m) place → first ≡ place → is_there (texts es) q ≡ false
+fresh-push m es q key place first same old here says last =
+    fresh-place (texts es) q place first (here ∙ sym (simp length-map)) (says ∙ ap (λ o. unwrap_or o place) (old key ∙ ap (place_of (texts es)) same)) last
+
+pub old-push : {V : Type 0} (m : BTreeMap (Bor (List ℕ)) ℕ) (es : List (Bor (List ℕ) × V)) (q key : List ℕ) (place first : ℕ) → key ≡ q → Agrees m es
+    → first ≡ unwrap_or (get_by (λ y. slice_cmp nat_cmp key y.now) m) place → (first ≡ place → ⊥) → place_of (texts es) q ≡ Some first
+old-push m es q key place first same old says apart =
+    old-place (texts es) q place first (says ∙ ap (λ o. unwrap_or o place) (old key ∙ ap (place_of (texts es)) same)) apart
+
+-- an item is pushed and taken back
+pub pushed-popped : {X : Type 0} (es fs gs : List X) (x : X) (n : ℕ) → fs ≡ es ++ x ∷ [] → n ≡ length es + 1 → gs ≡ take (n - 1) fs → gs ≡ es
+pushed-popped {X} es fs gs x n made len rest =
+    let all : n - 1 ≡ length es = omega (arith, len) in
+    rest ∙ (rw (all, made) (take-all es))
+  where
+    take-all : (es : List X) → take (length es) (es ++ x ∷ []) ≡ es
+    take-all [] = refl
+    take-all (e ∷ es) = ap (λ es. e ∷ es) (take-all es)

@@ -1,9 +1,12 @@
 -- The bits of expressions.
-use Rattle.std.proofs.Common.{arith, ◌≡◌, ℕ, suc, ◌+◌, ◌-◌, ◌/◌, ◌^◌, ◌<◌, ◌≤◌, [], ◌∷◌, ◌++◌, List, Option, Some, None, Bool, true, false, take, get_or, length, find, slice_get, is_some, cond, bytes_eq, refl, sym, ◌∙◌, ap, append_assoc}
+use Rattle.std.proofs.Common.{arith, ◌≡◌, ℕ, suc, ◌+◌, ◌-◌, ◌/◌, ◌^◌, ◌<◌, ◌≤◌, [], ◌∷◌, ◌++◌, List, Option, Some, None, Bool, true, false, take, get_or, length, find, slice_get, is_some, unwrap_or, cond, bytes_eq, refl, sym, ◌∙◌, ap, append_assoc}
 use Rattle.std.proofs.Math.Nat.{div-eq_of_lt}
 use Rattle.std.proofs.lemmas.List.{append-nil}
 use lib.Pow.{pow_mono}
 use Rattle.std.proofs.lemmas.Option.{slice_get-get_or, get_or_from_slice_get}
+use Rattle.std.specs.Option.{option_map}
+use Rattle.emh_base.specs.declared.ids.NetId.{NetId}
+use Rattle.emh_base.specs.declared.plain.Range.{Range}
 use Rattle.emh_base.specs.declared.plain.Dir.TheVariants.{Input}
 use Rattle.emh_base.specs.declared.plain.Conn.{Conn}
 use Rattle.emh_base.specs.declared.plain.Src.{Src}
@@ -11,10 +14,11 @@ use Rattle.vlog_read.specs.declared.tree.At.{At}
 use Rattle.vlog_read.specs.declared.tree.TConn.{TConn}
 use Rattle.vlog_elab.specs.declared.face.Port.{Port}
 use Rattle.vlog_elab.specs.declared.scope.Net.{Net}
-use Rattle.vlog_elab.specs.Named.{Named, named, is_there}
-use Rattle.vlog_elab.specs.Connections.{port_named}
-use Rattle.vlog_elab.specs.Table.{literal_bits, tie_of, is_to, conn_to, conn_of, conns_of}
+use Rattle.vlog_elab.specs.Named.{Named, named, place_of, is_there}
+use Rattle.vlog_elab.specs.Connections.{port_named, net_range}
+use Rattle.vlog_elab.specs.Table.{net_id, literal_bits, tie_of, is_to, conn_to, conn_of, conns_of}
 use Rattle.vlog_elab.specs.Pins.{pin_at, pins_from}
+use Rattle.vlog_elab.proofs.Naming.{value-at, there-None}
 use Rattle.vlog_elab.proofs.Numbering.{numbered_more}
 
 -- a value has no bits past its type's
@@ -100,3 +104,18 @@ conns_more ns ps cs i made within says =
     let none : 0 + i ≡ i = omega arith in
     numbered_more (λ place (port : List ℕ × Port). conn_of ns (conn_to cs place port.0)) 0 ps i port within (sym (get_or_from_slice_get ps i port port is))
     ∙ (rw (none, says port is) refl)
+
+-- The net of a name.
+
+pub net-found : (ns : Named Net) (q : List ℕ) (place number : ℕ) (range : Option Range) → Some place ≡ place_of ns q → number ≡ place
+    → range ≡ net_range (option_map (λ (e : List ℕ × Net). e.1) (slice_get ns place)) → ◌≡◌ {A = NetId × Option Range} (record { 0 = number }, range) (net_id ns q, net_range (named ns q))
+net-found ns q place number range found is says =
+    let id : number ≡ unwrap_or (place_of ns q) 0 = is ∙ ap (λ o. unwrap_or o 0) found in
+    let at : range ≡ net_range (named ns q) = says ∙ ap net_range (value-at place q ns (sym found)) in
+    rw (id, at) refl
+
+pub no_net-found : (ns : Named Net) (q : List ℕ) → None ≡ place_of ns q → ◌≡◌ {A = NetId × Option Range} (record { 0 = 0 }, None) (net_id ns q, net_range (named ns q))
+no_net-found ns q found =
+    let id : unwrap_or (place_of ns q) 0 ≡ 0 = ap (λ o. unwrap_or o 0) (sym found) in
+    let at : net_range (named ns q) ≡ None = ap net_range (there-None q ns (sym found)) in
+    rw (id, at) refl

@@ -1,10 +1,13 @@
 //! The bits of an expression, leftmost first.
-ghost use Rattle.std.specs.Prelude.{◌≡◌, ◌++◌, ◌≤◌, ◌/◌, ◌%◌, ◌^◌, ◌==◌, if◌then◌else◌, IfOk, OnOk};
+ghost use Rattle.std.specs.Prelude.{◌≡◌, ◌++◌, ◌≤◌, ◌/◌, ◌%◌, ◌^◌, ◌==◌, if◌then◌else◌, slice_get, IfOk, OnOk};
 ghost use Rattle.std.specs.List.{flat_map};
+ghost use Rattle.std.specs.Option.{option_map};
+ghost use Rattle.vlog_elab.specs.Named.{named};
+ghost use Rattle.vlog_elab.specs.Connections.{net_range};
 ghost use Rattle.vlog_elab.specs.Table.{net_id, net_bits, offset_in, literal_bits, tie_of, part_bits, conn_bits};
 
 use crate::names::Names;
-use crate::scope::{Net, net_range};
+use crate::scope::Net;
 use crate::select::width;
 use emh_base::{Conn, List, Name, NetId, NoMemory, Range, Src};
 use std::alloc::Global;
@@ -36,23 +39,43 @@ fn push_part(bits: &mut List<Src>, nets: &Names<'_, Net>, part: &Part) -> Result
 {
     match part {
         Part::Name(token) => {
-            let range = net_range(nets, &token.name);
-            push_net(bits, net_id(nets, &token.name)?, 0, width(range))
+            let (net, range) = net_of(nets, &token.name)?;
+            push_net(bits, net, 0, width(range))
         }
         Part::Bit(token, index) => {
-            let offset = offset_in(net_range(nets, &token.name), *index);
-            push_net(bits, net_id(nets, &token.name)?, offset, 1)
+            let (net, range) = net_of(nets, &token.name)?;
+            push_net(bits, net, offset_in(range, *index), 1)
         }
-        Part::Bits(token, range) => {
-            let offset = offset_in(net_range(nets, &token.name), range.left);
+        Part::Bits(token, select) => {
+            let (net, range) = net_of(nets, &token.name)?;
             push_net(
                 bits,
-                net_id(nets, &token.name)?,
-                offset,
-                width(Some(*range)),
+                net,
+                offset_in(range, select.left),
+                width(Some(*select)),
             )
         }
         Part::Lit { size, value } => push_literal(bits, *size, *value),
+    }
+}
+
+/// The id and the range of the net of a name.
+fn net_of(nets: &Names<'_, Net>, name: &Name) -> Result<(NetId, Option<Range>), NoMemory>
+    ensures { IfOk result (λ net. net ≡ (net_id nets.now name.now, net_range (named nets.now name.now))) }
+{
+    match nets.find(name) {
+        Some(place) => Ok((NetId(number(place)?), range_at(nets, place))),
+        None => Ok((NetId(0), None)),
+    }
+}
+
+/// The range of the net at a place.
+fn range_at(nets: &Names<'_, Net>, place: usize) -> Option<Range>
+    ensures { result ≡ net_range (option_map (λ e. e.1) (slice_get nets.now place)) }
+{
+    match nets.at(place) {
+        Some(net) => net.range,
+        None => None,
     }
 }
 

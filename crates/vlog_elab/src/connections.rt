@@ -1,5 +1,5 @@
 //! The second round: nets, instances and connections.
-ghost use Rattle.std.specs.Prelude.{◌≡◌, [], ◌∷◌, ◌++◌, map, None, Some, OnOk, if◌then◌else◌};
+ghost use Rattle.std.specs.Prelude.{◌≡◌, [], ◌∷◌, ◌++◌, map, length, None, Some, IfOk, OnOk, if◌then◌else◌};
 ghost use Rattle.std.specs.List.{flat_map};
 ghost use Rattle.std.specs.Option.{option_copied};
 ghost use Rattle.vlog_read.specs.declared.tree.At.{At};
@@ -7,12 +7,12 @@ ghost use Rattle.vlog_read.specs.declared.tree.TModule.{TModule};
 ghost use Rattle.vlog_elab.specs.declared.face.Face.{Face};
 ghost use Rattle.vlog_elab.specs.declared.scope.Scope.{Scope};
 ghost use Rattle.vlog_elab.specs.Check.{each_after};
-ghost use Rattle.vlog_elab.specs.Named.{named};
+ghost use Rattle.vlog_elab.specs.Named.{named, place_of};
 ghost use Rattle.vlog_elab.specs.Text.{is_leaf, header_decls, range_of};
 ghost use Rattle.vlog_elab.specs.Steps.{Declares, Places, Connects, Uses, Fits, decl_steps, conn_steps, inst_steps, item_steps, steps};
-ghost use Rattle.vlog_elab.specs.Connections.{port_named, ports_named, port_place, mixes, conn_checks, inner_checks};
+ghost use Rattle.vlog_elab.specs.Connections.{is_implied, port_named, ports_named, port_place, mixes, conn_checks, inner_checks};
 ghost use Rattle.vlog_elab.specs.Walk.{Walks, Checks};
-ghost use Rattle.vlog_elab.specs.Walks.{step_walk};
+ghost use Rattle.vlog_elab.specs.Walks.{with_new, step_walk};
 
 use crate::face::{Face, Port};
 use crate::fault::{ElabFault, ElabKind, fault, fault_at};
@@ -20,7 +20,7 @@ use crate::modules::is_leaf;
 use crate::names::Names;
 use crate::scope::{Net, Scope, meet, net_range};
 use crate::select::{fits, has_index, has_indices};
-use emh_base::Range;
+use emh_base::{Name, NoMemory, Range};
 use std::alloc::Global;
 use vlog_read::{At, Decl, Header, Item, Part, TConn, TInst, TModule};
 
@@ -209,9 +209,9 @@ fn walk_conn<'a>(
     ensures walk { Walks step_walk scope.old (conn_steps ports.now inst.now before.now conn.now) result scope.new }
     ensures seen { OnOk result (seen.new ≡ seen.old ++ port_named conn.now.port) }
 {
-    connect(ports, seen, inst, before, conn)?;
+    let place = connect(ports, seen, inst, before, conn)?;
     use_parts(scope, conn.parts.as_slice())?;
-    fit(ports, scope, before, conn)
+    fit(ports, scope, before, conn, place)
 }
 
 fn use_parts<'a>(scope: &mut Scope<'a>, parts: &'a [Part]) -> Result<(), ElabFault>
@@ -226,20 +226,31 @@ fn use_parts<'a>(scope: &mut Scope<'a>, parts: &'a [Part]) -> Result<(), ElabFau
 fn declare<'a>(scope: &mut Scope<'a>, name: &'a At, range: Option<Range>) -> Result<(), ElabFault>
     ensures { Walks step_walk scope.old (Declares name.now range ∷ []) result scope.new }
 {
-    if let Some(net) = scope.nets.get(&name.name) {
-        if net.implied {
-            return Err(fault(ElabKind::LateDeclaration, name));
-        }
-    }
-    if scope.insts.contains(&name.name) {
-        return Err(fault(ElabKind::NameTaken, name));
-    }
     let net = Net {
         range,
         implied: false,
     };
-    meet(&mut scope.nets, &name.name, net)?;
+    if declares_late(&mut scope.nets, &name.name, net)? {
+        return Err(fault(ElabKind::LateDeclaration, name));
+    }
+    if scope.insts.contains(&name.name) {
+        return Err(fault(ElabKind::NameTaken, name));
+    }
     Ok(())
+}
+
+/// Puts a net last where none of its name is there, and answers whether a connection has made one before.
+fn declares_late<'a>(nets: &mut Names<'a, Net>, name: &'a Name, net: Net) -> Result<bool, NoMemory>
+    ensures late { IfOk result (λ late. late ≡ is_implied (named nets.old name.now)) }
+    ensures after { OnOk result (nets.new ≡ with_new nets.old ((name.now, net) ∷ [])) }
+{
+    if nets.push_new(name, net)? {
+        return Ok(false);
+    }
+    match nets.get(name) {
+        Some(there) => Ok(there.implied),
+        None => Ok(false),
+    }
 }
 
 /// Takes an instance of a module.
@@ -254,23 +265,23 @@ fn place<'a>(
     if scope.nets.contains(&name.name) {
         return Err(fault(ElabKind::NameTaken, name));
     }
-    if scope.insts.contains(&name.name) {
-        return Err(fault(ElabKind::NameTaken, name));
+    if scope.insts.push_new(&name.name, ())? {
+        return Ok(());
     }
-    scope.insts.push(&name.name, ())?;
-    Ok(())
+    Err(fault(ElabKind::NameTaken, name))
 }
 
-/// Looks at the port that a connection is to; `seen` has the ports that were named before.
+/// Looks at the port that a connection is to, and answers its place; `seen` has the ports that were named before.
 fn connect<'a>(
     ports: &Names<'_, Port>,
     seen: &mut Names<'a, ()>,
     inst: &At,
     before: &[TConn],
     conn: &'a TConn,
-) -> Result<(), ElabFault>
+) -> Result<usize, ElabFault>
     requires { seen.old ≡ ports_named before.now }
     ensures checks { Checks (conn_checks ports.now inst.now before.now conn.now conn.now.port) result }
+    ensures place { IfOk result (λ place. port_place ports.now before.now conn.now.port ≡ Some place) }
     ensures seen { OnOk result (seen.new ≡ seen.old ++ port_named conn.now.port) }
 {
     match &conn.port {
@@ -297,9 +308,10 @@ fn by_order(
     inst: &At,
     before: &[TConn],
     conn: &TConn,
-) -> Result<(), ElabFault>
+) -> Result<usize, ElabFault>
     requires { seen.now ≡ ports_named before.now }
-    ensures { Checks (conn_checks ports.now inst.now before.now conn.now None) result }
+    ensures checks { Checks (conn_checks ports.now inst.now before.now conn.now None) result }
+    ensures place { IfOk result (λ place. place ≡ length before.now) }
 {
     if mixes(seen, before, false) {
         return Err(fault_at(ElabKind::Mixed, conn.at, &inst.name));
@@ -307,7 +319,7 @@ fn by_order(
     if ports.len() <= before.len() {
         return Err(fault_at(ElabKind::TooManyConnections, conn.at, &inst.name));
     }
-    Ok(())
+    Ok(before.len())
 }
 
 fn by_name<'a>(
@@ -317,22 +329,22 @@ fn by_name<'a>(
     before: &[TConn],
     conn: &TConn,
     name: &'a At,
-) -> Result<(), ElabFault>
+) -> Result<usize, ElabFault>
     requires { seen.old ≡ ports_named before.now }
     ensures checks { Checks (conn_checks ports.now inst.now before.now conn.now (Some name.now)) result }
+    ensures place { IfOk result (λ place. place_of ports.now name.now.name ≡ Some place) }
     ensures seen { OnOk result (seen.new ≡ seen.old ++ (name.now.name, tt) ∷ []) }
 {
     if mixes(seen, before, true) {
         return Err(fault_at(ElabKind::Mixed, conn.at, &inst.name));
     }
-    if !ports.contains(&name.name) {
+    let Some(place) = ports.find(&name.name) else {
         return Err(fault(ElabKind::UnknownPort, name));
+    };
+    if seen.push_new(&name.name, ())? {
+        return Ok(place);
     }
-    if seen.contains(&name.name) {
-        return Err(fault(ElabKind::PortTwice, name));
-    }
-    seen.push(&name.name, ())?;
-    Ok(())
+    Err(fault(ElabKind::PortTwice, name))
 }
 
 /// Takes a part of an expression.
@@ -373,21 +385,20 @@ fn use_part<'a>(scope: &mut Scope<'a>, part: &'a Part) -> Result<(), ElabFault>
     }
 }
 
-/// Looks at the width of an expression, which isn't empty.
+/// Looks at the width of an expression, which isn't empty, where the port at that place is connected.
 fn fit(
     ports: &Names<'_, Port>,
     scope: &Scope<'_>,
     before: &[TConn],
     conn: &TConn,
+    place: usize,
 ) -> Result<(), ElabFault>
+    requires { port_place ports.now before.now conn.now.port ≡ Some place }
     ensures { Walks step_walk scope.now (Fits ports.now before.now conn.now ∷ []) result scope.now }
 {
     if conn.parts.is_empty() {
         return Ok(());
     }
-    let Some(place) = port_place(ports, before, conn) else {
-        return Ok(());
-    };
     let (Some(name), Some(port)) = (ports.name(place), ports.at(place)) else {
         return Ok(());
     };
@@ -395,14 +406,4 @@ fn fit(
         return Ok(());
     }
     Err(fault_at(ElabKind::WidthMismatch, conn.expr_at, name))
-}
-
-/// The place of the port that a connection is to, after these connections.
-fn port_place(ports: &Names<'_, Port>, before: &[TConn], conn: &TConn) -> Option<usize>
-    ensures { result ≡ port_place ports.now before.now conn.now.port }
-{
-    match &conn.port {
-        None => Some(before.len()),
-        Some(name) => ports.find(&name.name),
-    }
 }

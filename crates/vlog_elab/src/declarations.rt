@@ -53,11 +53,10 @@ fn add_names<'a>(header: &mut Names<'a, ()>, names: &'a [At]) -> Result<(), Elab
 fn add_name<'a>(header: &mut Names<'a, ()>, name: &'a At) -> Result<(), ElabFault>
     ensures { Walks header_walk header.old (name.now ∷ []) result header.new }
 {
-    if header.contains(&name.name) {
-        return Err(fault(ElabKind::PortTwice, name));
+    if header.push_new(&name.name, ())? {
+        return Ok(());
     }
-    header.push(&name.name, ())?;
-    Ok(())
+    Err(fault(ElabKind::PortTwice, name))
 }
 
 /// What the declarations of a module say, whose header has these names.
@@ -235,7 +234,7 @@ fn direct<'a>(
     if !header.contains(&name.name) {
         return Err(fault(ElabKind::UnknownPort, name));
     }
-    if said.directions.contains(&name.name) {
+    if !said.directions.push_new(&name.name, port)? {
         return Err(fault(ElabKind::NameTaken, name));
     }
     if let Some(range) = said.wires.get(&name.name) {
@@ -243,7 +242,6 @@ fn direct<'a>(
             return Err(fault(ElabKind::RangeDiffers, name));
         }
     }
-    said.directions.push(&name.name, port)?;
     Ok(())
 }
 
@@ -257,7 +255,7 @@ fn wire<'a>(
 ) -> Result<(), ElabFault>
     ensures { Walks (place_walk leaf header.now) said.old (Wired name.now range ∷ []) result said.new }
 {
-    if said.wires.contains(&name.name) {
+    if !said.wires.push_new(&name.name, range)? {
         return Err(fault(ElabKind::NameTaken, name));
     }
     if let Some(port) = said.directions.get(&name.name) {
@@ -268,6 +266,5 @@ fn wire<'a>(
     if leaf && !header.contains(&name.name) {
         return Err(fault(ElabKind::LeafBody, name));
     }
-    said.wires.push(&name.name, range)?;
     Ok(())
 }

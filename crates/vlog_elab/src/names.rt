@@ -1,6 +1,10 @@
-ghost use Rattle.std.specs.Prelude.{◌≡◌, [], ◌∷◌, ◌++◌, true, false, length, slice_get, OnOk, OnErr};
+ghost use Rattle.std.specs.Prelude.{◌≡◌, ℕ, List, [], ◌∷◌, ◌++◌, not, if◌then◌else◌, length, slice_get, bytes_eq, Some, unwrap_or, IfOk, OnOk, OnErr};
 ghost use Rattle.std.specs.Option.{option_copied, option_map};
+ghost use Rattle.std.specs.Cmp.Lexicographic.{slice_cmp};
+ghost use Rattle.std.specs.Ordering.{nat_cmp};
+ghost use Rattle.std.specs.BTreeMap.{get_by, IsUnchanged};
 ghost use Rattle.vlog_elab.specs.Named.{named, place_of, is_there};
+ghost use Rattle.vlog_elab.specs.Walks.{with_new};
 
 use emh_base::{Name, NoMemory};
 use std::alloc::Global;
@@ -94,35 +98,54 @@ impl<'a, V: Drop> Names<'a, V> {
         ensures ok { OnOk result (self.new ≡ self.old ++ (name.now, value) ∷ []) }
         ensures err { OnErr result (self.new ≡ self.old) }
     {
-        if self.contains(name) {
-            self.push_again(name, value)
-        } else {
-            self.push_first(name, value)
-        }
-    }
-
-    fn push_again(&mut self, name: &'a Name, value: V) -> Result<(), NoMemory>
-        requires { is_there self.old name.now ≡ true }
-        ensures ok { OnOk result (self.new ≡ self.old ++ (name.now, value) ∷ []) }
-        ensures err { OnErr result (self.new ≡ self.old) }
-    {
-        self.entries.push((name, value))?;
-        Ok(())
-    }
-
-    fn push_first(&mut self, name: &'a Name, value: V) -> Result<(), NoMemory>
-        requires { is_there self.old name.now ≡ false }
-        ensures ok { OnOk result (self.new ≡ self.old ++ (name.now, value) ∷ []) }
-        ensures err { OnErr result (self.new ≡ self.old) }
-    {
         let place = self.entries.len();
         self.entries.push((name, value))?;
-        match self.places.insert(name.as_bytes(), place) {
+        match place_in(&mut self.places, name.as_bytes(), place) {
             Ok(_) => Ok(()),
             Err(_) => {
                 self.entries.pop();
                 Err(NoMemory)
             }
         }
+    }
+
+    /// Puts a name last where it isn't there, and answers whether it does. After want of memory all is as before.
+    pub fn push_new(&mut self, name: &'a Name, value: V) -> Result<bool, NoMemory>
+        ensures new { IfOk result (λ new. new ≡ not (is_there self.old name.now)) }
+        ensures ok { OnOk result (self.new ≡ with_new self.old ((name.now, value) ∷ [])) }
+        ensures err { OnErr result (self.new ≡ self.old) }
+    {
+        let place = self.entries.len();
+        self.entries.push((name, value))?;
+        match place_in(&mut self.places, name.as_bytes(), place) {
+            Ok(first) => {
+                if first == place {
+                    return Ok(true);
+                }
+                self.entries.pop();
+                Ok(false)
+            }
+            Err(_) => {
+                self.entries.pop();
+                Err(NoMemory)
+            }
+        }
+    }
+}
+
+/// The place that a name has in a map, or else this one, which it gets.
+fn place_in<'a>(
+    places: &mut BTreeMap<&'a [u8], usize>,
+    name: &'a [u8],
+    place: usize,
+) -> Result<usize, NoMemory>
+    ensures first { IfOk result (λ first. first ≡ unwrap_or (get_by (λ k. slice_cmp nat_cmp name.now k.now) places.old) place) }
+    ensures ok { IfOk result (λ first. (q : List ℕ) → get_by (λ k. slice_cmp nat_cmp q k.now) places.new
+        ≡ (if bytes_eq name.now q then Some first else get_by (λ k. slice_cmp nat_cmp q k.now) places.old)) }
+    ensures err { OnErr result (IsUnchanged places.old places.new) }
+{
+    match places.entry(name) {
+        Ok(entry) => Ok(*entry.or_insert(place)),
+        Err(_) => Err(NoMemory),
     }
 }

@@ -37,10 +37,8 @@ impl<'a> Scope<'a> {
 pub fn meet<'a>(nets: &mut Names<'a, Net>, name: &'a Name, net: Net) -> Result<(), NoMemory>
     ensures { OnOk result (nets.new ≡ with_new nets.old ((name.now, net) ∷ [])) }
 {
-    if nets.contains(name) {
-        return Ok(());
-    }
-    nets.push(name, net)
+    nets.push_new(name, net)?;
+    Ok(())
 }
 
 /// The range of the net of a name.
