@@ -1,5 +1,5 @@
 -- Counting level by level.
-use Rattle.std.proofs.Common.{◌≡◌, ◌≢◌, ℕ, zero, suc, ◌+◌, ◌<◌, min, List, map, length, get_or, slice_get, sum_by, Option, Some, None, IsSomeAnd, AllPairs, refl, sym, ap, subst, ◌∙◌, add-one, arith}
+use Rattle.std.proofs.Common.{◌≡◌, ◌≢◌, ℕ, zero, suc, ◌+◌, ◌-◌, ◌<◌, min, List, map, length, get_or, slice_get, sum_by, Option, Some, None, IsSomeAnd, AllPairs, refl, sym, ap, subst, ◌∙◌, add-one, arith}
 use Rattle.std.proofs.lemmas.Option.{slice_get_within, get_or_from_slice_get}
 use Rattle.std.proofs.lemmas.List.{get_or-map}
 use Rattle.emh_base.specs.declared.ids.ModId.{ModId}
@@ -67,3 +67,12 @@ found-own M m k rise modules all within at =
     let There : List PModule → Type 0 = λ xs. (k < length xs) × (m ≡ get_or xs k m) in
     let there : There M.modules = subst There all (within, at) in
     subst Own (sym there.1) (find-own (λ (x : PModule). x.id.0) M.modules rise k m there.0)
+
+pub counted-below : (weight : Weight) (M : Plain) (m : ModId) (x : PModule) (levels own sum : ℕ) → levels ≢ 0 → module_of M m ≡ Some x
+    → own ≡ min (weight x.id (Some x)) 4000001
+    → sum ≡ min (sum_by (λ (inst : PInst). total (weight_in weight M) M inst.master (levels - 1)) x.insts) 4000001
+    → min (own + sum) 4000001 ≡ counted weight M levels m
+counted-below weight M m x levels own sum some found is rest =
+    let same : own ≡ min (weight m (Some x)) 4000001 = is ∙ ap (λ id. min (weight id (Some x)) 4000001) (id-of_found M m x found) in
+    let more : (levels - 1) + 1 ≡ levels = omega (arith, some) in
+    counted-above weight M m x (levels - 1) own sum found same rest ∙ ap (λ n. counted weight M n m) more

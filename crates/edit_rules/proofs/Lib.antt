@@ -8,3 +8,5 @@ pub mod UnfoldLemmas
 pub mod HeightLemmas
 pub mod DepthLemmas
 pub mod ApplyLemmas
+pub mod PlacedLemmas
+pub mod FactsLemmas

@@ -9,7 +9,7 @@ ghost use Rattle.flatten_rules.specs.Extent.{total};
 ghost use Rattle.edit_rules.specs.Count.{weight_in, counted, level_of};
 
 use emh_base::{List, ModId, NoMemory, PInst, PModule, Plain};
-use flatten_rules::place_of_module;
+use flatten_rules::{module_of, place_of_module};
 
 /// Numbers stop here: the greatest limit plus one.
 const STOP: u64 = 4_000_001;
@@ -139,4 +139,24 @@ pub fn count<X: Measure>(plain: &Plain, measure: &X, top: ModId) -> Result<u64, 
 {
     let level = last_level(plain, measure)?;
     Ok(value_at(plain, measure, level.as_slice(), 257, top))
+}
+
+/// What an occurrence of a module counts with all below it, down to so many levels, walked through. It takes no memory.
+pub fn below<X: Measure>(plain: &Plain, measure: &X, id: ModId, levels: u64) -> u64
+    requires { AllPairs (λ (a b : PModule). a.id.0 < b.id.0) plain.now.modules }
+    ensures { result ≡ counted (X.weight measure.now) plain.now levels id }
+{
+    if levels == 0 {
+        return 0;
+    }
+    match module_of(plain, id) {
+        None => measure.absent(id),
+        Some(holder) => {
+            let mut sum = 0;
+            for inst in holder.insts.as_slice() {
+                sum = (sum + below(plain, measure, inst.master, levels - 1)).min(STOP);
+            }
+            (measure.number(holder) + sum).min(STOP)
+        }
+    }
 }

@@ -6,12 +6,15 @@ mod changes;
 mod count;
 mod create;
 mod depth;
+mod facts;
+mod good;
 mod insts;
 mod judged;
 mod laws;
 mod limits;
 mod modules;
 mod nets;
+mod reading;
 mod readers;
 mod rewrite;
 mod settings;
@@ -20,5 +23,10 @@ mod table;
 mod width;
 
 pub use apply::apply_plain;
+pub use facts::{Counters, Facts, Spot, Totals};
+pub use good::is_good_state;
 pub use judged::{Judged, Need};
 pub use laws::worked_edits;
+
+#[cfg(test)]
+mod tests;

@@ -245,7 +245,8 @@ pub fn port_place(plain: &Plain, id: ModId, port: NetId) -> Option<usize>
     }
 }
 
-fn place_of_port(holder: &PModule, port: NetId) -> Option<usize>
+/// The place of a port among a module's ports.
+pub fn place_of_port(holder: &PModule, port: NetId) -> Option<usize>
     ensures { result ≡ position (λ other. other.net.0 == port.0) holder.now.ports }
 {
     let mut ports = holder.ports.as_slice().iter();
