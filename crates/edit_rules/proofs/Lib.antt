@@ -10,3 +10,9 @@ pub mod DepthLemmas
 pub mod ApplyLemmas
 pub mod PlacedLemmas
 pub mod FactsLemmas
+pub mod ReadLemmas
+pub mod PortLemmas
+pub mod MoreLemmas
+pub mod OutlineLemmas
+pub mod AlikeLemmas
+pub mod TopLemmas

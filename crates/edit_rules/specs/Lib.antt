@@ -14,3 +14,5 @@ pub mod Judged
 pub mod Order
 pub mod Count
 pub mod Facts
+pub mod Ports
+pub mod Outline

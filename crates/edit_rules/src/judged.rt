@@ -1,4 +1,4 @@
-ghost use Rattle.std.specs.Prelude.{◌≡◌, [], ◌∷◌};
+ghost use Rattle.std.specs.Prelude.{◌≡◌, false, [], ◌∷◌, IfOk};
 ghost use Rattle.edit_rules.specs.Check.{check};
 ghost use Rattle.edit_rules.specs.Judged.{Looks};
 
@@ -31,7 +31,8 @@ impl From<NoMemory> for Judged {
 
 /// Looks at one rule.
 pub fn keep(rule: Rule, object: Object, broken: bool) -> Result<(), Judged>
-    ensures { Looks (check rule object broken ∷ []) result }
+    ensures looks { Looks (check rule object broken ∷ []) result }
+    ensures kept { IfOk result (λ _. broken ≡ false) }
 {
     if broken {
         return Err(Judged::Rule(Refusal { rule, object }));

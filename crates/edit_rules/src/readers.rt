@@ -433,7 +433,7 @@ fn same_port(holder: &PModule, other: &PModule, port: &PPort, second: &PPort) ->
     }
 }
 
-fn same_dir(a: Dir, b: Dir) -> bool
+pub fn same_dir(a: Dir, b: Dir) -> bool
     ensures { result ≡ same_dir a b }
 {
     match a {
@@ -476,7 +476,7 @@ fn same_shape(a: &PNet, b: &PNet) -> bool
     same_range(a.range, b.range)
 }
 
-fn same_range(a: Option<Range>, b: Option<Range>) -> bool
+pub fn same_range(a: Option<Range>, b: Option<Range>) -> bool
     ensures { result ≡ same_range a b }
 {
     match a {
@@ -525,7 +525,7 @@ fn is_through(holder: &PModule, a: PPort, b: PPort) -> bool
     is_bit(holder, b)
 }
 
-fn goes_through(a: Dir, b: Dir) -> bool
+pub fn goes_through(a: Dir, b: Dir) -> bool
     ensures { result ≡ goes_through a b }
 {
     match a {
