@@ -14,7 +14,7 @@ mod ports;
 mod spots;
 
 use crate::facts::Facts;
-use crate::judged::{Judged, Need};
+use crate::judged::Judged;
 use crate::settings::set_grid;
 use connections::{connect, disconnect};
 use emh_base::Edit;
@@ -24,18 +24,8 @@ use nets::{create_net, create_port, delete_net, delete_port, rename_net};
 use spots::{place, unplace};
 use std::alloc::Global;
 
-/// Judges an edit of a good state by what is read of the state: the first rule that the edit breaks, or what it needs.
-/// The two numbers of the need are 0 for now.
-pub fn judge<F: Facts>(alloc: Global, facts: &F, edit: &Edit) -> Result<Need, Judged>
-    requires { IsGoodState (F.state facts.now) }
-    ensures { Looks (checks (F.state facts.now) edit.now) result }
-{
-    look(alloc, facts, edit)?;
-    Ok(Need { rows: 0, writes: 0 })
-}
-
 /// Looks at the rules of an edit.
-fn look<F: Facts>(alloc: Global, facts: &F, edit: &Edit) -> Result<(), Judged>
+pub fn look<F: Facts>(alloc: Global, facts: &F, edit: &Edit) -> Result<(), Judged>
     requires { IsGoodState (F.state facts.now) }
     ensures { Looks (checks (F.state facts.now) edit.now) result }
 {

@@ -26,7 +26,7 @@ mod width;
 pub use apply::apply_plain;
 pub use facts::{Counters, Facts, Spot, Totals};
 pub use good::is_good_state;
-pub use judged::{Judged, Need};
+pub use judged::{Judged, Need, judge};
 pub use laws::worked_edits;
 
 #[cfg(test)]

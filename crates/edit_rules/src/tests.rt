@@ -5,20 +5,33 @@ mod limits;
 mod rows;
 mod shown;
 
-use crate::{apply_plain, is_good_state};
+use crate::{Judged, Need, apply_plain, is_good_state, judge};
 use asks::{Ask, edit_of};
 use designs::{Shape, design_of};
 use emh_base::{Edit, State};
-use shown::{shown_answer, shown_state};
+use shown::{shown_answer, shown_judged, shown_state};
 use std::alloc::Global;
 use std::test::Fail;
 
-/// What is answered to an edit of a state, which is done.
+/// What is answered to an edit of a state, which is done. It is judged the same before.
 fn carried(alloc: Global, state: &mut State, edit: &Edit) -> Result<String, Fail> {
     is_good_state(alloc, state)?
         .then_some(())
         .ok_or("no good state")?;
-    shown_answer(alloc, &apply_plain(state, edit))
+    let judged = judge(alloc, state, edit);
+    let told = shown_answer(alloc, &apply_plain(state, edit))?;
+    is_told(alloc, &judged, told.as_str())?
+        .then_some(())
+        .ok_or("judged otherwise")?;
+    Ok(told)
+}
+
+/// Whether what is judged is what was told.
+fn is_told(alloc: Global, judged: &Result<Need, Judged>, told: &str) -> Result<bool, Fail> {
+    match judged {
+        Ok(_) => Ok(told.starts_with("User")),
+        Err(judged) => Ok(shown_judged(alloc, judged)?.as_str() == told),
+    }
 }
 
 /// What is answered to the last of some edits of a design, and the state after it.

@@ -14,8 +14,17 @@ pub fn shown_answer(alloc: Global, answer: &Result<Change, Judged>) -> Result<St
     let mut text = String::new(alloc);
     match answer {
         Ok(change) => show_change(&mut text, change)?,
-        Err(Judged::Rule(refusal)) => show_refusal(&mut text, *refusal)?,
-        Err(Judged::NoMemory) => return Err(NoMemory.into()),
+        Err(judged) => return shown_judged(alloc, judged),
+    }
+    Ok(text)
+}
+
+/// The code and the name of the rule that is broken, and on what.
+pub fn shown_judged(alloc: Global, judged: &Judged) -> Result<String, Fail> {
+    let mut text = String::new(alloc);
+    match judged {
+        Judged::Rule(refusal) => show_refusal(&mut text, *refusal)?,
+        Judged::NoMemory => return Err(NoMemory.into()),
     }
     Ok(text)
 }
