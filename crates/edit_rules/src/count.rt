@@ -1,7 +1,7 @@
 //! Occurrences are counted once a module, level by level: what a module counts down to one level more is told by what
 //! the masters of its instances count.
 
-ghost use Rattle.std.specs.Prelude.{◌≡◌, ℕ, ◌+◌, ◌<◌, ◌≤◌, None, Some, min, map, sum_by, AllPairs, IfOk};
+ghost use Rattle.std.specs.Prelude.{◌≡◌, ℕ, ◌+◌, ◌<◌, ◌≤◌, None, Some, min, map, sum_by, AllPairs, IsTrue, IfOk};
 ghost use Rattle.emh_base.specs.declared.plain.PInst.{PInst};
 ghost use Rattle.emh_base.specs.declared.plain.PModule.{PModule};
 ghost use Rattle.flatten_rules.specs.Lookup.{module_of};
@@ -102,16 +102,28 @@ fn next_level<X: Measure>(
     Ok(made)
 }
 
-/// What each module counts with all below it, down to the last level that matters.
+/// What each module counts with all below it, down to the last level that matters. Once a level more changes nothing,
+/// none does.
 fn last_level<X: Measure>(plain: &Plain, measure: &X) -> Result<List<u64>, NoMemory>
     requires rise { AllPairs (λ (a b : PModule). a.id.0 < b.id.0) plain.now.modules }
     ensures { IfOk result (λ made. made ≡ level_of (X.weight measure.now) plain.now 257) }
 {
     let mut level = no_level(plain)?;
     for levels in 0..257 {
-        level = next_level(plain, measure, level.as_slice(), levels)?;
+        let more = next_level(plain, measure, level.as_slice(), levels)?;
+        if 0 < levels && are_same(more.as_slice(), level.as_slice()) {
+            return Ok(level);
+        }
+        level = more;
     }
     Ok(level)
+}
+
+/// Whether two levels have the same numbers.
+pub fn are_same(more: &[u64], level: &[u64]) -> bool
+    ensures { IsTrue result → more.now ≡ level.now }
+{
+    more == level
 }
 
 /// What each module counts down to no level.

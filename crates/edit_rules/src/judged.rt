@@ -5,7 +5,7 @@ ghost use Rattle.edit_rules.specs.Judged.{Looks};
 ghost use Rattle.edit_rules.specs.Apply.{checks};
 
 use crate::facts::Facts;
-use crate::judge::look;
+use crate::judging::look;
 use emh_base::{Edit, NoMemory, Object, Refusal, Rule};
 use std::alloc::Global;
 
