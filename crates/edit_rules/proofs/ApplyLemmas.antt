@@ -7,7 +7,7 @@ use Rattle.edit_rules.specs.declared.judged.Judged.{Judged}
 use Rattle.edit_rules.specs.Judged.{Looks}
 use Rattle.edit_rules.specs.Apply.{checks, table_after}
 
-pub looks_at : (S : State) (e known : Edit) (r : Result Plain Judged) → e ≡ known → Looks (checks S known) r → Looks (checks S e) r
+pub looks_at : {X : Type 0} (S : State) (e known : Edit) (r : Result X Judged) → e ≡ known → Looks (checks S known) r → Looks (checks S e) r
 looks_at S e known r is told = let Told : Edit → Type 0 = λ edit. Looks (checks S edit) r in subst Told (sym is) told
 
 pub made_at : (M : Plain) (e known : Edit) (r : Result Plain Judged) → e ≡ known → IfOk r (λ made. made ≡ table_after M known) → IfOk r (λ made. made ≡ table_after M e)

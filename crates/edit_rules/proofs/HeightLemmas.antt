@@ -1,5 +1,5 @@
 -- Heights level by level.
-use Rattle.std.proofs.Common.{◌≡◌, ℕ, zero, suc, ◌+◌, ◌<◌, ◌≤◌, max, nat_lt, List, [], ◌∷◌, ◌++◌, map, length, get_or, take, slice_get, Option, Some, None, IsSomeAnd, refl, sym, ap, ◌∙◌, add-one, arith}
+use Rattle.std.proofs.Common.{◌≡◌, ℕ, zero, suc, ◌+◌, ◌-◌, ◌<◌, ◌≤◌, ◌==◌, max, nat_lt, List, [], ◌∷◌, ◌++◌, map, length, get_or, take, slice_get, Option, Some, None, IsSomeAnd, All, refl, sym, ap, subst, ◌∙◌, add-one, arith}
 use Rattle.std.specs.List.{list_any}
 use Rattle.std.proofs.lemmas.Option.{slice_get_within, get_or_from_slice_get}
 use Rattle.std.proofs.lemmas.List.{get_or-map}
@@ -10,8 +10,10 @@ use Rattle.emh_base.specs.declared.plain.PModule.{PModule}
 use Rattle.emh_base.specs.declared.plain.Plain.{Plain}
 use Rattle.flatten_rules.specs.Lookup.{module_of, insts_of}
 use Rattle.flatten_rules.specs.Extent.{height, greatest_by}
+use Rattle.flatten_rules.proofs.Sound.{All-find}
 use Rattle.flatten_rules.proofs.Walks.{id-of_found}
 use Rattle.edit_rules.specs.Count.{heights}
+use Rattle.edit_rules.proofs.CountLemmas.{same-each, map-each}
 
 greatest-le : {X : Type 0} (f : X → ℕ) (n : ℕ) → ((x : X) → f x ≤ n) → (xs : List X) → greatest_by f xs ≤ n
 greatest-le f n low [] = omega arith
@@ -70,3 +72,41 @@ height-nowhere M = refl
 pub any-map : {X : Type 0} (f : X → ℕ) (xs : List X) → list_any (λ n. nat_lt 256 n) (map f xs) ≡ list_any (λ x. nat_lt 256 (f x)) xs
 any-map f [] = refl
 any-map f (x ∷ xs) = rw (any-map f xs) refl
+
+-- once no height changes, none changes any more
+
+module _ (M : Plain) where
+  step : (n : ℕ) → ((id : ModId) → height M id (suc n) ≡ height M id n) → (id : ModId) → height M id (suc (suc n)) ≡ height M id (suc n)
+  step n same id =
+      height-more M id (suc n)
+      ∙ greatest-same (λ (inst : PInst). suc (height M inst.master (suc n))) (λ (inst : PInst). suc (height M inst.master n)) (λ inst. ap suc (same inst.master)) (insts_of (module_of M id))
+      ∙ sym (height-more M id n)
+
+  steps : (n : ℕ) → ((id : ModId) → height M id (suc n) ≡ height M id n) → (j : ℕ) (id : ModId) → height M id (suc (j + n)) ≡ height M id (j + n)
+  steps n same zero id = let none : 0 + n ≡ n = omega arith in rw none (same id)
+  steps n same (suc j) id =
+      let more : (x : ModId) → height M x (suc (suc (j + n))) ≡ height M x (suc (j + n)) = step (j + n) (steps n same j) in
+      let next : suc j + n ≡ suc (j + n) = omega arith in
+      rw next (more id)
+
+  reach : (n : ℕ) → ((id : ModId) → height M id (suc n) ≡ height M id n) → (j : ℕ) (id : ModId) → height M id (j + n) ≡ height M id n
+  reach n same zero id = let none : 0 + n ≡ n = omega arith in ap (height M id) none
+  reach n same (suc j) id =
+      let next : suc j + n ≡ suc (j + n) = omega arith in
+      rw next (steps n same j id ∙ reach n same j id)
+
+  same-found : (n : ℕ) (id : ModId) → All (λ (m : PModule). height M m.id (suc n) ≡ height M m.id n) M.modules → (found : Option PModule) → found ≡ module_of M id → height M id (suc n) ≡ height M id n
+  same-found n id all None at = height-absent M id (suc n) (sym at) ∙ sym (height-absent M id n (sym at))
+  same-found n id all (Some m) at =
+      let Same : ModId → Type 0 = λ x. height M x (suc n) ≡ height M x n in
+      subst Same (id-of_found M id m (sym at)) (All-find (λ (x : PModule). height M x.id (suc n) ≡ height M x.id n) (λ x. x.id.0 == id.0) M.modules m all (sym at))
+
+  pub heights-stay : (n : ℕ) (level more : List ℕ) → n < 257 → level ≡ heights M n → more ≡ heights M (n + 1) → more ≡ level → level ≡ heights M 257
+  heights-stay n level more few known next same =
+      let longer : n + 1 ≡ suc n = omega arith in
+      let lists : heights M (suc n) ≡ heights M n = rw longer at (sym next ∙ same ∙ known) in
+      let all = same-each (λ (m : PModule). height M m.id (suc n)) (λ (m : PModule). height M m.id n) M.modules lists in
+      let each : (id : ModId) → height M id (suc n) ≡ height M id n = λ id. same-found n id all (module_of M id) refl in
+      let last : (257 - n) + n ≡ 257 = omega (arith, few) in
+      let reached : (id : ModId) → height M id 257 ≡ height M id n = λ id. rw last at (reach n each (257 - n) id) in
+      known ∙ sym (map-each (λ (m : PModule). height M m.id 257) (λ (m : PModule). height M m.id n) (λ m. reached m.id) M.modules)

@@ -8,3 +8,11 @@ pub mod UnfoldLemmas
 pub mod HeightLemmas
 pub mod DepthLemmas
 pub mod ApplyLemmas
+pub mod PlacedLemmas
+pub mod FactsLemmas
+pub mod ReadLemmas
+pub mod PortLemmas
+pub mod MoreLemmas
+pub mod OutlineLemmas
+pub mod AlikeLemmas
+pub mod TopLemmas

@@ -1,7 +1,7 @@
 -- Sums over occurrences, counted once a module.
-use Rattle.std.proofs.Common.{◌≡◌, ℕ, zero, suc, ◌+◌, ◌<◌, ◌==◌, Bool, true, false, cond, ◌||◌, min, nat_lt, List, [], ◌∷◌, ◌++◌, length, sum_by, refl, ap, ◌∙◌, arith}
+use Rattle.std.proofs.Common.{◌≡◌, ℕ, zero, suc, ◌+◌, ◌<◌, ◌≤◌, ◌==◌, Bool, true, false, cond, ◌||◌, min, nat_lt, List, [], ◌∷◌, ◌++◌, length, sum_by, count_by, refl, ap, ◌∙◌, arith}
 use Rattle.std.specs.List.{flat_map, list_any}
-use Rattle.std.proofs.lemmas.List.Sums.{sum_by-cons, sum_by-append}
+use Rattle.std.proofs.lemmas.List.Sums.{sum_by-cons, sum_by-append, count_by-le-length}
 use Rattle.emh_base.specs.declared.ids.ModId.{ModId}
 use Rattle.emh_base.specs.declared.ids.InstId.{InstId}
 use Rattle.emh_base.specs.declared.plain.PInst.{PInst}
@@ -26,7 +26,7 @@ length-sum_by : {X : Type 0} (xs : List X) → length xs ≡ sum_by (λ x. 1) xs
 length-sum_by [] = refl
 length-sum_by {X} (x ∷ xs) = omega (arith, sum_by-cons (λ (y : X). 1) x xs, length-sum_by xs)
 
-total-unfolded : (number : ModId → ℕ) (M : Plain) (levels : ℕ) (path : List InstId) (m : ModId) → sum_by (λ (o : Occurrence). number o.1) (unfolded M path m levels) ≡ total number M m levels
+pub total-unfolded : (number : ModId → ℕ) (M : Plain) (levels : ℕ) (path : List InstId) (m : ModId) → sum_by (λ (o : Occurrence). number o.1) (unfolded M path m levels) ≡ total number M m levels
 unfolding unfolded total
 total-unfolded number M zero path m = refl
 total-unfolded number M (suc levels) path m =
@@ -62,3 +62,21 @@ leads-counted M from to =
     any-sum_by (λ (o : Occurrence). o.1.0 == to.0) (occurrences M from)
     ∙ ap (nat_lt 0) (total-unfolded (λ m. cond (m.0 == to.0) 1 0) M 257 [] from)
     ∙ capped 0 (total (λ m. cond (m.0 == to.0) 1 0) M from 257) (omega arith)
+
+-- where it is within the limits, nothing is capped
+pub occurrences-counted : (M : Plain) (top : ModId) → length (occurrences M top) ≤ 1000000 → counted (λ _ _. 1) M 257 top ≡ length (occurrences M top)
+occurrences-counted M top few =
+    let same : length (occurrences M top) ≡ total (λ m. 1) M top 257 = length-sum_by (occurrences M top) ∙ total-unfolded (λ m. 1) M 257 [] top in
+    omega (arith, same, few)
+
+pub bits-counted : (M : Plain) (top : ModId) → sum_by (λ (o : Occurrence). bits_of (module_of M o.1)) (occurrences M top) ≤ 4000000
+    → counted (λ _ m. bits_of m) M 257 top ≡ sum_by (λ (o : Occurrence). bits_of (module_of M o.1)) (occurrences M top)
+bits-counted M top few =
+    let same : sum_by (λ (o : Occurrence). bits_of (module_of M o.1)) (occurrences M top) ≡ total (λ m. bits_of (module_of M m)) M top 257 = total-unfolded (λ m. bits_of (module_of M m)) M 257 [] top in
+    omega (arith, same, few)
+
+pub times-counted : (M : Plain) (top id : ModId) → length (occurrences M top) ≤ 1000000
+    → counted (λ m _. cond (m.0 == id.0) 1 0) M 257 top ≡ count_by (λ (o : Occurrence). o.1.0 == id.0) (occurrences M top)
+times-counted M top id few =
+    let same : count_by (λ (o : Occurrence). o.1.0 == id.0) (occurrences M top) ≡ total (λ m. cond (m.0 == id.0) 1 0) M top 257 = total-unfolded (λ m. cond (m.0 == id.0) 1 0) M 257 [] top in
+    omega (arith, same, few, count_by-le-length (λ (o : Occurrence). o.1.0 == id.0) (occurrences M top))

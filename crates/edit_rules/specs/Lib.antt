@@ -13,3 +13,6 @@ pub mod Examples
 pub mod Judged
 pub mod Order
 pub mod Count
+pub mod Facts
+pub mod Ports
+pub mod Outline

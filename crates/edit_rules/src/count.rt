@@ -1,7 +1,7 @@
 //! Occurrences are counted once a module, level by level: what a module counts down to one level more is told by what
 //! the masters of its instances count.
 
-ghost use Rattle.std.specs.Prelude.{◌≡◌, ℕ, ◌+◌, ◌<◌, ◌≤◌, None, Some, min, map, sum_by, AllPairs, IfOk};
+ghost use Rattle.std.specs.Prelude.{◌≡◌, ℕ, ◌+◌, ◌<◌, ◌≤◌, None, Some, min, map, sum_by, AllPairs, IsTrue, IfOk};
 ghost use Rattle.emh_base.specs.declared.plain.PInst.{PInst};
 ghost use Rattle.emh_base.specs.declared.plain.PModule.{PModule};
 ghost use Rattle.flatten_rules.specs.Lookup.{module_of};
@@ -9,7 +9,7 @@ ghost use Rattle.flatten_rules.specs.Extent.{total};
 ghost use Rattle.edit_rules.specs.Count.{weight_in, counted, level_of};
 
 use emh_base::{List, ModId, NoMemory, PInst, PModule, Plain};
-use flatten_rules::place_of_module;
+use flatten_rules::{module_of, place_of_module};
 
 /// Numbers stop here: the greatest limit plus one.
 const STOP: u64 = 4_000_001;
@@ -102,16 +102,28 @@ fn next_level<X: Measure>(
     Ok(made)
 }
 
-/// What each module counts with all below it, down to the last level that matters.
+/// What each module counts with all below it, down to the last level that matters. Once a level more changes nothing,
+/// none does.
 fn last_level<X: Measure>(plain: &Plain, measure: &X) -> Result<List<u64>, NoMemory>
     requires rise { AllPairs (λ (a b : PModule). a.id.0 < b.id.0) plain.now.modules }
     ensures { IfOk result (λ made. made ≡ level_of (X.weight measure.now) plain.now 257) }
 {
     let mut level = no_level(plain)?;
     for levels in 0..257 {
-        level = next_level(plain, measure, level.as_slice(), levels)?;
+        let more = next_level(plain, measure, level.as_slice(), levels)?;
+        if 0 < levels && are_same(more.as_slice(), level.as_slice()) {
+            return Ok(level);
+        }
+        level = more;
     }
     Ok(level)
+}
+
+/// Whether two levels have the same numbers.
+pub fn are_same(more: &[u64], level: &[u64]) -> bool
+    ensures { IsTrue result → more.now ≡ level.now }
+{
+    more == level
 }
 
 /// What each module counts down to no level.
@@ -139,4 +151,24 @@ pub fn count<X: Measure>(plain: &Plain, measure: &X, top: ModId) -> Result<u64, 
 {
     let level = last_level(plain, measure)?;
     Ok(value_at(plain, measure, level.as_slice(), 257, top))
+}
+
+/// What an occurrence of a module counts with all below it, down to so many levels, walked through. It takes no memory.
+pub fn below<X: Measure>(plain: &Plain, measure: &X, id: ModId, levels: u64) -> u64
+    requires { AllPairs (λ (a b : PModule). a.id.0 < b.id.0) plain.now.modules }
+    ensures { result ≡ counted (X.weight measure.now) plain.now levels id }
+{
+    if levels == 0 {
+        return 0;
+    }
+    match module_of(plain, id) {
+        None => measure.absent(id),
+        Some(holder) => {
+            let mut sum = 0;
+            for inst in holder.insts.as_slice() {
+                sum = (sum + below(plain, measure, inst.master, levels - 1)).min(STOP);
+            }
+            (measure.number(holder) + sum).min(STOP)
+        }
+    }
 }

@@ -9,7 +9,7 @@ ghost use Rattle.edit_rules.specs.Limits.{is_too_deep};
 ghost use Rattle.edit_rules.specs.Count.{heights};
 ghost use Rattle.std.specs.List.{list_any};
 
-use crate::count::no_level;
+use crate::count::{are_same, no_level};
 use emh_base::{List, ModId, NoMemory, PInst, PModule, Plain};
 use flatten_rules::place_of_module;
 
@@ -65,14 +65,18 @@ fn next_level(plain: &Plain, level: &[u64], levels: u64) -> Result<List<u64>, No
     Ok(made)
 }
 
-/// The heights of the modules, as far as they matter.
+/// The heights of the modules, as far as they matter. Once a level more changes nothing, none does.
 fn last_level(plain: &Plain) -> Result<List<u64>, NoMemory>
     requires { AllPairs (λ (a b : PModule). a.id.0 < b.id.0) plain.now.modules }
     ensures { IfOk result (λ made. made ≡ heights plain.now 257) }
 {
     let mut level = no_level(plain)?;
     for levels in 0..257 {
-        level = next_level(plain, level.as_slice(), levels)?;
+        let more = next_level(plain, level.as_slice(), levels)?;
+        if are_same(more.as_slice(), level.as_slice()) {
+            return Ok(level);
+        }
+        level = more;
     }
     Ok(level)
 }

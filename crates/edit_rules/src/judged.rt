@@ -1,8 +1,13 @@
-ghost use Rattle.std.specs.Prelude.{◌≡◌, [], ◌∷◌};
+ghost use Rattle.std.specs.Prelude.{◌≡◌, false, [], ◌∷◌, IfOk};
 ghost use Rattle.edit_rules.specs.Check.{check};
+ghost use Rattle.edit_rules.specs.Good.{IsGoodState};
 ghost use Rattle.edit_rules.specs.Judged.{Looks};
+ghost use Rattle.edit_rules.specs.Apply.{checks};
 
-use emh_base::{NoMemory, Object, Refusal, Rule};
+use crate::facts::Facts;
+use crate::judging::look;
+use emh_base::{Edit, NoMemory, Object, Refusal, Rule};
+use std::alloc::Global;
 
 /// What an edit needs in the tables of a design that is kept linked: new rows, and writes to rows.
 #[derive(Clone, Copy, Debug, PartialEq, Eq)]
@@ -31,10 +36,21 @@ impl From<NoMemory> for Judged {
 
 /// Looks at one rule.
 pub fn keep(rule: Rule, object: Object, broken: bool) -> Result<(), Judged>
-    ensures { Looks (check rule object broken ∷ []) result }
+    ensures looks { Looks (check rule object broken ∷ []) result }
+    ensures kept { IfOk result (λ _. broken ≡ false) }
 {
     if broken {
         return Err(Judged::Rule(Refusal { rule, object }));
     }
     Ok(())
+}
+
+/// Judges an edit of a good state by what is read of the state: the first rule that the edit breaks, or what it needs.
+/// The two numbers of the need are 0 for now.
+pub fn judge<F: Facts>(alloc: Global, facts: &F, edit: &Edit) -> Result<Need, Judged>
+    requires { IsGoodState (F.state facts.now) }
+    ensures { Looks (checks (F.state facts.now) edit.now) result }
+{
+    look(alloc, facts, edit)?;
+    Ok(Need { rows: 0, writes: 0 })
 }

@@ -6,13 +6,17 @@ mod changes;
 mod count;
 mod create;
 mod depth;
+mod facts;
+mod good;
 mod insts;
 mod judged;
+mod judging;
 mod laws;
 mod limits;
 mod modules;
 mod nets;
 mod readers;
+mod reading;
 mod rewrite;
 mod settings;
 mod spots;
@@ -20,5 +24,10 @@ mod table;
 mod width;
 
 pub use apply::apply_plain;
-pub use judged::{Judged, Need};
+pub use facts::{Counters, Facts, Spot, Totals};
+pub use good::is_good_state;
+pub use judged::{Judged, Need, judge};
 pub use laws::worked_edits;
+
+#[cfg(test)]
+mod tests;

@@ -10,7 +10,7 @@ use emh_base::{ModId, NoMemory, PModule, Plain, Range};
 
 /// Each occurrence counts as one.
 #[derive(Clone, Copy)]
-struct Occurrences {}
+pub struct Occurrences {}
 
 impl Measure for Occurrences {
     ghost weight = { λ _ _ _. 1 };
@@ -26,7 +26,7 @@ impl Measure for Occurrences {
 
 /// An occurrence counts its net bits, a leaf none.
 #[derive(Clone, Copy)]
-struct NetBits {}
+pub struct NetBits {}
 
 impl Measure for NetBits {
     ghost use Rattle.flatten_rules.specs.Limits.{bits_of};
@@ -44,8 +44,8 @@ impl Measure for NetBits {
 
 /// An occurrence of the one module counts as one, of another as none.
 #[derive(Clone, Copy)]
-struct Of {
-    id: ModId,
+pub struct Of {
+    pub id: ModId,
 }
 
 impl Measure for Of {

@@ -245,7 +245,8 @@ pub fn port_place(plain: &Plain, id: ModId, port: NetId) -> Option<usize>
     }
 }
 
-fn place_of_port(holder: &PModule, port: NetId) -> Option<usize>
+/// The place of a port among a module's ports.
+pub fn place_of_port(holder: &PModule, port: NetId) -> Option<usize>
     ensures { result ≡ position (λ other. other.net.0 == port.0) holder.now.ports }
 {
     let mut ports = holder.ports.as_slice().iter();
@@ -432,7 +433,7 @@ fn same_port(holder: &PModule, other: &PModule, port: &PPort, second: &PPort) ->
     }
 }
 
-fn same_dir(a: Dir, b: Dir) -> bool
+pub fn same_dir(a: Dir, b: Dir) -> bool
     ensures { result ≡ same_dir a b }
 {
     match a {
@@ -475,7 +476,7 @@ fn same_shape(a: &PNet, b: &PNet) -> bool
     same_range(a.range, b.range)
 }
 
-fn same_range(a: Option<Range>, b: Option<Range>) -> bool
+pub fn same_range(a: Option<Range>, b: Option<Range>) -> bool
     ensures { result ≡ same_range a b }
 {
     match a {
@@ -524,7 +525,7 @@ fn is_through(holder: &PModule, a: PPort, b: PPort) -> bool
     is_bit(holder, b)
 }
 
-fn goes_through(a: Dir, b: Dir) -> bool
+pub fn goes_through(a: Dir, b: Dir) -> bool
     ensures { result ≡ goes_through a b }
 {
     match a {

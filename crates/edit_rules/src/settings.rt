@@ -25,14 +25,14 @@ pub fn set_grid(grid: u32) -> Result<(), Judged>
 }
 
 /// Whether a fan-out is below 2 or above 1,000,000.
-fn is_bad_fanout(max: u32) -> bool
+pub fn is_bad_fanout(max: u32) -> bool
     ensures { result ≡ is_bad_fanout max }
 {
     max < 2 || 1_000_000 < max
 }
 
 /// Whether a grid is 0 or above 1,000,000.
-fn is_bad_grid(grid: u32) -> bool
+pub fn is_bad_grid(grid: u32) -> bool
     ensures { result ≡ is_bad_grid grid }
 {
     grid == 0 || 1_000_000 < grid

@@ -105,7 +105,7 @@ fn at_leaf(state: &State, path: &Path) -> Result<(), Judged>
     }
 }
 
-fn is_fixed(placement: Option<Placement>) -> bool
+pub fn is_fixed(placement: Option<Placement>) -> bool
     ensures { result ≡ is_fixed placement }
 {
     match placement {
