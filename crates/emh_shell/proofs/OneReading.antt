@@ -1,11 +1,10 @@
 -- A file has one table or one fault, and a load of it one reply.
-use Rattle.std.proofs.Common.{◌≡◌, ℕ, ◌<◌, ◌≤◌, List, length, Option, Some, None, refl, sym, ap, ap₂, subst, ◌∙◌, arith}
+use Rattle.std.proofs.Common.{◌≡◌, ℕ, List, length, Option, Some, None, refl, sym, ap, ap₂, ◌∙◌, arith}
 use Rattle.emh_base.specs.declared.ids.ModId.{ModId}
 use Rattle.emh_base.specs.declared.plain.PModule.{PModule}
 use Rattle.emh_base.specs.declared.plain.Plain.{Plain}
-use Rattle.emh_io.specs.declared.shelf.TheConstants.{FILE_LIMIT}
 use Rattle.std.specs.Prelude.{MatchOption, false}
-use Rattle.flatten_rules.specs.Design.{Opens, module_named}
+use Rattle.flatten_rules.specs.Design.{module_named}
 use Rattle.vlog_lex.proofs.OneAnswer.{one_list, one_fault, not_both}
 use Rattle.vlog_read.proofs.OneAnswer as read
 use Rattle.vlog_read.specs.declared.tree.Tree.{Tree}

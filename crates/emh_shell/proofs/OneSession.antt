@@ -1,13 +1,13 @@
 -- A session has one text and one status.
-use Rattle.std.proofs.Common.{◌≡◌, ◌⊎◌, ℕ, Bool, true, false, List, [], ◌∷◌, ◌++◌, length, nat_lt, Option, Some, None, inl, inr, refl, sym, ap, subst, ◌∙◌}
-use Rattle.std.specs.Prelude.{Result, Ok, Err, MatchOption, MatchBool, MatchResult, codes, if◌then◌else◌}
+use Rattle.std.proofs.Common.{◌≡◌, ℕ, Bool, true, false, List, [], ◌∷◌, ◌++◌, length, nat_lt, Option, Some, None, inl, inr, sym, ap, ◌∙◌}
+use Rattle.std.specs.Prelude.{Result, Ok, Err, MatchOption, MatchBool, MatchResult, codes}
 use Rattle.emh_io.specs.declared.shelf.TheConstants.{FILE_LIMIT}
 use Rattle.emh_io.specs.Files.{Files, held}
 use Rattle.emh_shell.specs.declared.command.Command.{Command}
 use Rattle.emh_shell.specs.declared.command.Command.TheVariants.{Load, ReportPins}
 use Rattle.emh_shell.specs.declared.fault.ScriptFault.{ScriptFault}
 use Rattle.emh_shell.specs.declared.stand.Stand.{Stand}
-use Rattle.emh_shell.specs.Play.{LoadSteps, Steps, Stops, Plays, PlaysLines, PlaysScript, Play, start, load_text, after_load, fault_line}
+use Rattle.emh_shell.specs.Play.{LoadSteps, Steps, Stops, Plays, PlaysLines, PlaysScript, start, load_text, after_load, fault_line}
 use Rattle.emh_shell.specs.Script.{script_of}
 use Rattle.emh_shell.specs.Law.{EachSessionOnce}
 use Rattle.emh_shell.proofs.OneReading.{one-reply}
