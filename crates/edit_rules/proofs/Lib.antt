@@ -8,3 +8,6 @@ pub mod UnfoldLemmas
 pub mod HeightLemmas
 pub mod DepthLemmas
 pub mod ApplyLemmas
+pub mod GoodWalks
+pub mod GoodChecks
+pub mod GoodTables

@@ -13,3 +13,4 @@ pub mod Examples
 pub mod Judged
 pub mod Order
 pub mod Count
+pub mod Law
