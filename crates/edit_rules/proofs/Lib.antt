@@ -11,3 +11,4 @@ pub mod ApplyLemmas
 pub mod GoodWalks
 pub mod GoodChecks
 pub mod GoodTables
+pub mod GoodStates
