@@ -12,3 +12,5 @@ pub mod GoodWalks
 pub mod GoodChecks
 pub mod GoodTables
 pub mod GoodStates
+pub mod GoodNames
+pub mod GoodKept

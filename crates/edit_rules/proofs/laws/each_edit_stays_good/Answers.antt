@@ -1,6 +1,8 @@
 use Rattle.edit_rules.proofs.GoodWalks as walks
 use Rattle.edit_rules.proofs.GoodTables as tables
 use Rattle.edit_rules.proofs.GoodChecks as checks
+use Rattle.edit_rules.proofs.GoodKept as kept
+use Rattle.edit_rules.proofs.GoodNames as names
 use Rattle.edit_rules.proofs.GoodStates as states
 use Rattle.edit_rules.proofs.laws.each_edit_stays_good.Goals as goal
 
