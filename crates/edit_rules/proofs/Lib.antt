@@ -14,3 +14,4 @@ pub mod GoodTables
 pub mod GoodStates
 pub mod GoodNames
 pub mod GoodKept
+pub mod GoodRenames
