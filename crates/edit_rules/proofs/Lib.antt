@@ -15,3 +15,4 @@ pub mod GoodStates
 pub mod GoodNames
 pub mod GoodKept
 pub mod GoodRenames
+pub mod GoodInsts

@@ -1,0 +1,149 @@
+-- Edits of one instance, and one instance less, keep a good state good.
+use Rattle.std.proofs.Common.{◌≡◌, ◌≢◌, ℕ, zero, suc, ◌==◌, ◌<◌, ◌≤◌, nat_le, Bool, true, false, cond, not, inl, inr, List, [], ◌∷◌, ◌++◌, map, filter, find, position, length, get_or, set, slice_get, slice_set, Option, Some, None, option_map, option_and_then, is_some, IsSome, MatchOption, All, AllPairs, IsTrue, bytes_eq, refl, sym, ap, ◌∙◌, subst, arith}
+use Rattle.std.specs.List.{IsDistinct, list_any, flat_map}
+use Rattle.std.proofs.lemmas.Bool.{or_parts, true≢false}
+use Rattle.std.proofs.lemmas.Bool.Decides.{nat_tests}
+use Rattle.std.proofs.lemmas.List.Elements.{All-map, All-weaker, All-filter, All-nil, All-cons}
+use Rattle.std.proofs.lemmas.List.Kept.{AllPairs-filter}
+use Rattle.emh_base.specs.declared.ids.ModId.{ModId}
+use Rattle.emh_base.specs.declared.ids.NetId.{NetId}
+use Rattle.emh_base.specs.declared.ids.InstId.{InstId}
+use Rattle.emh_base.specs.declared.plain.Src.{Src}
+use Rattle.emh_base.specs.declared.plain.Src.TheVariants.{Tie0, Tie1, Bit}
+use Rattle.emh_base.specs.declared.plain.Conn.{Conn}
+use Rattle.emh_base.specs.declared.plain.Conn.TheVariants.{Open, Bits}
+use Rattle.emh_base.specs.declared.plain.PNet.{PNet}
+use Rattle.emh_base.specs.declared.plain.PPort.{PPort}
+use Rattle.emh_base.specs.declared.plain.PInst.{PInst}
+use Rattle.emh_base.specs.declared.plain.PModule.{PModule}
+use Rattle.emh_base.specs.declared.plain.Plain.{Plain}
+use Rattle.emh_base.specs.declared.state.State.{State}
+use Rattle.emh_base.specs.declared.rule.Refusal.{Refusal}
+use Rattle.emh_base.specs.declared.edit.Edit.TheVariants.{RenameInst, Connect, Disconnect, DeleteInst}
+use Rattle.flatten_rules.specs.Lookup.{module_of, net_of, port_of, inst_of, width_of}
+use Rattle.flatten_rules.specs.Domains.{ports_of}
+use Rattle.flatten_rules.specs.Sound.{IsSource, FitsPort, FitPorts, HasMaster, IsSoundModule, IsSound}
+use Rattle.flatten_rules.proofs.Places.{find-from_place}
+use Rattle.flatten_rules.proofs.Walks.{find-own, find-passes, same-some}
+use Rattle.edit_rules.specs.Check.{Check, first_broken}
+use Rattle.edit_rules.specs.Readers.{is_name_in, inst_in, net_in, port_in, master_of, master_id, port_place}
+use Rattle.edit_rules.specs.Changes.{with_module, with_insts, with_inst, with_conns}
+use Rattle.edit_rules.specs.Insts.{rename_inst, rename_inst_rules, delete_inst, delete_inst_rules, connect, connect_rules, disconnect, disconnect_rules, with_conn, set_conn, source_rules, width_rules}
+use Rattle.edit_rules.specs.Good.{IsGoodState}
+use Rattle.edit_rules.specs.Apply.{after}
+use Rattle.edit_rules.proofs.OrderLemmas.{rises-map}
+use Rattle.edit_rules.proofs.GoodWalks.{AreBelow}
+use Rattle.edit_rules.proofs.GoodTables.{SamePorts, KeepsConn, KeepsMasters, Same, below-own, master_kept, map-through}
+use Rattle.edit_rules.proofs.GoodChecks.{Passes, first-passes, Opened, common-passes, there, not-false}
+use Rattle.edit_rules.proofs.GoodStates.{KeepsGood, stays}
+use Rattle.edit_rules.proofs.GoodNames as names
+use Rattle.edit_rules.proofs.GoodNames.{NamesApart, Apart}
+use Rattle.edit_rules.proofs.GoodKept.{insts_kept, keeps_wide, no_cell, holder-sound, holder-names, names-stay, within-changed, masters-changed, changed-good}
+
+abbrev net_name : PNet → List ℕ
+net_name net = net.name
+
+abbrev inst_name : PInst → List ℕ
+inst_name inst = inst.name
+
+abbrev number : PInst → ℕ
+number inst = inst.id.0
+
+chosen : (P : PInst → Type 0) (b : Bool) (y x : PInst) → (b ≡ true → P y) → P x → P (cond b y x)
+chosen P true y x here stays = here refl
+chosen P false y x here stays = stays
+
+-- the instance of an id is changed, and stays at its place and of its master
+module _ (i : InstId) (c : PInst → PInst) where
+  abbrev pub at_inst : PInst → PInst
+  at_inst inst = cond (inst.id.0 == i.0) (c inst) inst
+
+  pub inst-keeps : {Y : Type 0} (part : PInst → Y) → ((x : PInst) → part (c x) ≡ part x) → (x : PInst) → part (at_inst x) ≡ part x
+  inst-keeps part same x = chosen (λ y. part y ≡ part x) (x.id.0 == i.0) (c x) x (λ here. same x) refl
+
+  pub each-inst : (P : PInst → PInst → Type 0) (m : PModule) (x : PInst) → AllPairs (λ (a b : PInst). a.id.0 < b.id.0) m.insts → inst_of m i ≡ Some x → P (c x) x
+      → All (λ (y : PInst). P y y) m.insts → All (λ (y : PInst). P (at_inst y) y) m.insts
+  each-inst P m x rise found here rest k d within =
+      let y : PInst = get_or m.insts k d in
+      chosen (λ z. P z y) (y.id.0 == i.0) (c y) y
+      (λ at.
+      let same_number : y.id.0 ≡ i.0 = grind (arith, nat_tests) in
+      let make : ℕ → InstId = λ n. record { 0 = n } in
+      let same_id : y.id ≡ i = ap make same_number in
+      let own : inst_of m y.id ≡ Some y = find-own number m.insts rise k d within in
+      let same : x ≡ y = same-some (inst_of m i) x y found (ap (inst_of m) (sym same_id) ∙ own) in
+      subst (λ z. P (c z) z) same here)
+      (rest k d within)
+
+pub below-map : (h : PInst → PInst) → ((x : PInst) → (h x).master ≡ x.master) → (xs : List PInst) → AreBelow Same (map h xs) xs
+below-map h same [] = tt
+below-map h same (x ∷ xs) = inl (same x, below-map h same xs)
+
+module _ (S : State) (id : ModId) (i : InstId) (c : PInst → PInst) (ids : (x : PInst) → (c x).id ≡ x.id) (masters : (x : PInst) → (c x).master ≡ x.master) where
+  abbrev f : PModule → PModule
+  f m = with_insts (at_inst i c) m
+
+  pub inst-table : (o : Opened S id) (x : PInst) → IsGoodState S → inst_of o.holder i ≡ Some x
+      → IsDistinct bytes_eq (map net_name o.holder.nets ++ map inst_name (map (at_inst i c) o.holder.insts))
+      → (HasMaster S.plain o.holder x → HasMaster S.plain o.holder (c x)) → KeepsGood S.plain (with_inst S.plain id i c) S.top
+  inst-table o x good found distinct again =
+      let N : Plain = with_inst S.plain id i c in
+      let s = holder-sound S id f (λ m. refl) o good in
+      let ports : SamePorts o.holder (f o.holder) = record { ports = refl; widths = λ k d within. refl } in
+      let kept : KeepsMasters S.plain N = masters-changed S id f (λ m. refl) o good ports in
+      let insts : List PInst = o.holder.insts in
+      let has : (y : PInst) → HasMaster S.plain o.holder y → HasMaster N (f o.holder) y =
+      λ y h. master_kept S.plain N o.holder (f o.holder) y kept (λ k d within. keeps_wide o.holder (f o.holder) (λ net. omega arith) (get_or y.conns k d)) h
+      in
+      let Has : PInst → PInst → Type 0 = λ new old. HasMaster S.plain o.holder old → HasMaster S.plain o.holder new in
+      let each : All (λ (y : PInst). Has (at_inst i c y) y) insts = each-inst i c Has o.holder x s.insts_rise found again (λ k d within. λ h. h) in
+      changed-good S id f (λ m. refl) o good (λ m. refl) (names-stay S id f (λ m. refl) o good (λ m. refl)) ports
+      (record {
+        names = distinct;
+        nets_rise = s.nets_rise;
+        nets_below = s.nets_below;
+        ranges = s.ranges;
+        ports_there = s.ports_there;
+        ports_differ = s.ports_differ;
+        insts_rise = rises-map number (at_inst i c) (inst-keeps i c number (λ y. ap (λ (at : InstId). at.0) (ids y))) insts s.insts_rise;
+        insts_below = All-map (λ (y : PInst). y.id.0 < o.holder.next_inst) (at_inst i c) insts
+            (All-weaker (λ (y : PInst). y.id.0 < o.holder.next_inst) (λ (y : PInst). (at_inst i c y).id.0 < o.holder.next_inst)
+            (λ y low. rw (inst-keeps i c number (λ z. ap (λ (at : InstId). at.0) (ids z)) y) low) insts s.insts_below);
+        masters = All-map (HasMaster N (f o.holder)) (at_inst i c) insts (λ k d within. has (at_inst i c (get_or insts k d)) (each k d within (s.masters k d within)));
+        cell = no_cell o.holder (f o.holder) o.inner refl;
+      })
+      (within-changed S id f (λ m. refl) o good (below-map (at_inst i c) (inst-keeps i c (λ y. y.master) masters) insts) (omega arith))
+
+-- the instance of an edit
+pub inst-there : (S : State) (id : ModId) (i : InstId) (o : Opened S id) → not (is_some (inst_in S.plain id i)) ≡ false → (x : PInst) × (inst_of o.holder i ≡ Some x) × (inst_in S.plain id i ≡ Some x)
+inst-there S id i o e =
+    let x = there (inst_in S.plain id i) e in
+    (x.0, sym (ap (option_and_then (λ (m : PModule). inst_of m i)) o.found) ∙ x.1, x.1)
+
+-- RenameInst
+
+pub rename_inst-good : (S : State) (id : ModId) (i : InstId) (name : List ℕ) → IsGoodState S → Passes (rename_inst_rules S id i name) → IsGoodState (after S (RenameInst id i name))
+rename_inst-good S id i name good p =
+    let a = common-passes S id p in
+    let b = first-passes a.1 in
+    let c = first-passes b.1 in
+    let o : Opened S id = a.0 in
+    let x = inst-there S id i o b.0 in
+    let new : PInst → PInst = λ y. record y { name = name } in
+    let nets : List PNet = o.holder.nets in
+    let insts : List PInst = o.holder.insts in
+    let s = holder-sound S id (λ m. m) (λ m. refl) o good in
+    let taken = or_parts _ _ (sym (ap (λ m. is_name_in m name) o.found) ∙ c.0) in
+    let new_nets : All (λ (y : PNet). y.name ≢ name) nets = names.free net_name name nets taken.0 in
+    let new_insts : All (λ (y : PInst). y.name ≢ name) insts = names.free inst_name name insts taken.1 in
+    let old : NamesApart net_name inst_name nets insts = holder-names S id (λ m. m) (λ m. refl) o good in
+    stays S (rename_inst S.plain id i name) good
+    (inst-table S id i new (λ y. refl) (λ y. refl) o x.0 good x.1
+    (names.names_distinct net_name inst_name nets (map (at_inst i new) insts) (record {
+      left = old.left;
+      right = names.apart-renamed inst_name number i.0 name new (λ y. refl) insts s.insts_rise new_insts old.right;
+      across = λ k d within. All-map (λ (y : PInst). net_name (get_or nets k d) ≢ inst_name y) (at_inst i new) insts (λ j e inside. λ same.
+          names.renamed-differs inst_name number i.0 name new (λ y. refl) (get_or insts j e) (net_name (get_or nets k d))
+          (λ equal. new_nets k d within (sym equal)) (λ equal. old.across k d within j e inside (sym equal)) (sym same));
+    }))
+    (λ h. h))
