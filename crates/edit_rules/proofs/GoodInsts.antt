@@ -93,7 +93,7 @@ module _ (S : State) (id : ModId) (i : InstId) (c : PInst → PInst) (ids : (x :
       let kept : KeepsMasters S.plain N = masters-changed S id f (λ m. refl) o good ports in
       let insts : List PInst = o.holder.insts in
       let has : (y : PInst) → HasMaster S.plain o.holder y → HasMaster N (f o.holder) y =
-      λ y h. master_kept S.plain N o.holder (f o.holder) y kept (λ k d within. keeps_wide o.holder (f o.holder) (λ net. omega arith) (get_or y.conns k d)) h
+      λ y h. master_kept S.plain N o.holder (f o.holder) y (kept y.master) (λ k d within. keeps_wide o.holder (f o.holder) (λ net. omega arith) (get_or y.conns k d)) h
       in
       let Has : PInst → PInst → Type 0 = λ new old. HasMaster S.plain o.holder old → HasMaster S.plain o.holder new in
       let each : All (λ (y : PInst). Has (at_inst i c y) y) insts = each-inst i c Has o.holder x s.insts_rise found again (λ k d within. λ h. h) in

@@ -40,7 +40,7 @@ keeps_wide m n wide (Bits bits) = λ all. All-weaker (IsSource m) (IsSource n) (
 -- the instances of a module as they are, in a module that has all of its sources
 pub insts_kept : (M N : Plain) (m n : PModule) → KeepsMasters M N → ((net : NetId) → width_of (net_of m net) ≤ width_of (net_of n net)) → (insts : List PInst) → All (HasMaster M m) insts → All (HasMaster N n) insts
 insts_kept M N m n masters wide insts all =
-    All-weaker (HasMaster M m) (HasMaster N n) (λ inst has. master_kept M N m n inst masters (λ k d within. keeps_wide m n wide (get_or inst.conns k d)) has) insts all
+    All-weaker (HasMaster M m) (HasMaster N n) (λ inst has. master_kept M N m n inst (masters inst.master) (λ k d within. keeps_wide m n wide (get_or inst.conns k d)) has) insts all
 
 -- a module that is no leaf needn't be a cell
 pub no_cell : (m n : PModule) → m.leaf ≡ false → n.leaf ≡ m.leaf → IsTrue n.leaf → IsCell n

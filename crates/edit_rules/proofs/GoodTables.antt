@@ -70,24 +70,28 @@ fit_kept m n master other (port ∷ ports) (conn ∷ conns) wide keeps fits =
       fit_kept m n master other ports conns (All-tail Wide port ports wide) (All-tail (KeepsConn m n) conn conns keeps) fits.1,
     )
 
--- the masters of a table are in another, with the same ports
-abbrev pub KeepsMasters : Plain → Plain → Type 0
-KeepsMasters M N = (id : ModId) (master : PModule) → module_of M id ≡ Some master → (other : PModule) × (module_of N id ≡ Some other) × SamePorts master other
+-- a master of a table is in another, with the same ports
+abbrev pub KeepsMaster : Plain → Plain → ModId → Type 0
+KeepsMaster M N id = (master : PModule) → module_of M id ≡ Some master → (other : PModule) × (module_of N id ≡ Some other) × SamePorts master other
 
-pub master_kept : (M N : Plain) (m n : PModule) (inst : PInst) → KeepsMasters M N → All (KeepsConn m n) inst.conns → HasMaster M m inst → HasMaster N n inst
-master_kept M N m n inst masters keeps has = by_cases (module_of M inst.master) refl has
+-- and each is
+abbrev pub KeepsMasters : Plain → Plain → Type 0
+KeepsMasters M N = (id : ModId) → KeepsMaster M N id
+
+pub master_kept : (M N : Plain) (m n : PModule) (inst : PInst) → KeepsMaster M N inst.master → All (KeepsConn m n) inst.conns → HasMaster M m inst → HasMaster N n inst
+master_kept M N m n inst kept_master keeps has = by_cases (module_of M inst.master) refl has
   where
     by_cases : (o : Option PModule) → module_of M inst.master ≡ o → MatchOption o ⊥ (λ master. FitPorts m master master.ports inst.conns) → HasMaster N n inst
     by_cases None e h = absurd h
     by_cases (Some master) e h =
-        let kept = masters inst.master master e in
+        let kept = kept_master master e in
         let Fits : List PPort → Type 0 = λ ports. FitPorts n kept.0 ports inst.conns in
         let Has : Option PModule → Type 0 = λ o. MatchOption o ⊥ (λ other. FitPorts n other other.ports inst.conns) in
         subst Has (sym kept.1) (subst Fits (sym kept.2.ports) (fit_kept m n master kept.0 master.ports inst.conns kept.2.widths keeps h))
 
 pub masters_kept : (M N : Plain) (m : PModule) → KeepsMasters M N → All (HasMaster M m) m.insts → All (HasMaster N m) m.insts
 masters_kept M N m masters all =
-    All-weaker (HasMaster M m) (HasMaster N m) (λ inst has. master_kept M N m m inst masters (λ k d within. keeps-own m (get_or inst.conns k d)) has) m.insts all
+    All-weaker (HasMaster M m) (HasMaster N m) (λ inst has. master_kept M N m m inst (masters inst.master) (λ k d within. keeps-own m (get_or inst.conns k d)) has) m.insts all
 
 -- a module that stays is sound in a table that keeps its masters
 pub module_kept : (M N : Plain) (m : PModule) → KeepsMasters M N → IsSoundModule M m → IsSoundModule N m

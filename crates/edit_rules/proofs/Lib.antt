@@ -16,3 +16,4 @@ pub mod GoodNames
 pub mod GoodKept
 pub mod GoodRenames
 pub mod GoodInsts
+pub mod GoodNets
