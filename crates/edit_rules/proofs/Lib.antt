@@ -17,3 +17,4 @@ pub mod GoodKept
 pub mod GoodRenames
 pub mod GoodInsts
 pub mod GoodNets
+pub mod GoodModules
