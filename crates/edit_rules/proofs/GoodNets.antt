@@ -71,7 +71,7 @@ none-found p (x ∷ xs) none = let e = apart (p x) x (find p xs) none in All-con
     apart true x o none = absurd (true≢false none)
     apart false x o none = (refl, none)
 
-sum-filter : {X : Type 0} (n : X → ℕ) (p : X → Bool) (xs : List X) → sum_by n (filter p xs) ≤ sum_by n xs
+pub sum-filter : {X : Type 0} (n : X → ℕ) (p : X → Bool) (xs : List X) → sum_by n (filter p xs) ≤ sum_by n xs
 sum-filter n p [] = omega arith
 sum-filter n p (x ∷ xs) = by (p x) (sum-filter n p xs)
   where

@@ -18,3 +18,4 @@ pub mod GoodRenames
 pub mod GoodInsts
 pub mod GoodNets
 pub mod GoodModules
+pub mod GoodPorts
