@@ -38,7 +38,7 @@ use Rattle.edit_rules.specs.Apply.{after}
 use Rattle.edit_rules.proofs.OrderLemmas.{rises-map}
 use Rattle.edit_rules.proofs.GoodWalks.{AreBelow, IsBelow, short-below, size-below, within-below}
 use Rattle.edit_rules.proofs.GoodTables.{SamePorts, KeepsConn, KeepsMaster, fit_kept, master_kept, mapped, Same, IsOwn, lookup-mapped, cells-mapped, inner-mapped, below-mapped, within-mapped, sound-mapped, map-through, changed, changed-keeps, each-changed}
-use Rattle.edit_rules.proofs.GoodChecks.{Passes, first-passes, Opened, common-passes}
+use Rattle.edit_rules.proofs.GoodChecks.{Passes, first-passes, Opened, common-passes, there}
 use Rattle.edit_rules.proofs.GoodStates.{KeepsGood, stays}
 use Rattle.edit_rules.proofs.GoodNames as names
 use Rattle.edit_rules.proofs.GoodNames.{NamesApart}
@@ -182,3 +182,211 @@ module _ (S : State) (id : ModId) (f : PModule → PModule) (d : List Conn → L
               ap (λ ys. put (map joined ys)) none ∙ sym (ap put none))
               m own (sound-module S.plain m.id m good.table.sound own) is);
         }
+
+-- CreatePort
+
+fit-push : (m master : PModule) (ports : List PPort) (conns : List Conn) (port : PPort) → FitPorts m master ports conns → FitPorts m master (ports ++ port ∷ []) (conns ++ Open ∷ [])
+fit-push m master [] [] port fits = (tt, tt)
+fit-push m master [] (conn ∷ conns) port fits = absurd fits
+fit-push m master (p ∷ ports) [] port fits = absurd fits
+fit-push m master (p ∷ ports) (conn ∷ conns) port fits = (fits.0, fit-push m master ports conns port fits.1)
+
+found-last : {X : Type 0} (o : Option X) (b : Bool) (x : X) → b ≡ true → is_some (option_or o (cond b (Some x) None)) ≡ true
+found-last None true x is = refl
+found-last None false x is = absurd (false≢true is)
+found-last (Some y) b x is = refl
+
+-- the net of the new port is there
+new-there : (m : PModule) (name : List ℕ) (range : Option Range) → IsSome (net_of (with_net name range m) (record { 0 = m.next_net }))
+new-there m name range =
+    let own : NetId = record { 0 = m.next_net } in
+    let same : (m.next_net == m.next_net) ≡ true = grind (arith, nat_tests) in
+    ap (λ (x : Option PNet). is_some x) (find-append (λ (x : PNet). x.id.0 == own.0) m.nets (new_net m.next_net name range ∷ []))
+    ∙ found-last (find (λ (x : PNet). x.id.0 == own.0) m.nets) (m.next_net == m.next_net) (new_net m.next_net name range) same
+
+-- and no port was on it
+port-fresh : (M : Plain) (m : PModule) → IsSoundModule M m → All (λ (port : PPort). port.net ≢ record { 0 = m.next_net }) m.ports
+port-fresh M m s k d within = λ same.
+    let port : PPort = get_or m.ports k d in
+    let net = some-there (net_of m port.net) (s.ports_there k d within) in
+    let low : net.0.id.0 < m.next_net = All-find (λ (x : PNet). x.id.0 < m.next_net) (λ (x : PNet). x.id.0 == port.net.0) m.nets net.0 s.nets_below net.1 in
+    let is : net.0.id.0 ≡ port.net.0 = ap (λ (x : NetId). x.0) (id-of_net m port.net net.0 net.1) in
+    let at : port.net.0 ≡ m.next_net = ap (λ (x : NetId). x.0) same in
+    omega (arith, low, is, at)
+
+pub create_port-good : (S : State) (id : ModId) (name : List ℕ) (dir : Dir) (range : Option Range) → IsGoodState S → Passes (create_port_rules S id name dir range) → IsGoodState (after S (CreatePort id name dir range))
+create_port-good S id name dir range good p =
+    let a = common-passes S id p in
+    let b = first-passes a.1 in
+    let c = first-passes b.1 in
+    let q = first-passes c.1 in
+    let e = first-passes q.1 in
+    let o : Opened S id = a.0 in
+    let m : PModule = o.holder in
+    let f : PModule → PModule = with_port name dir range in
+    let d : List Conn → List Conn = λ conns. conns ++ Open ∷ [] in
+    let port : PPort = record { net = record { 0 = m.next_net }; dir = dir } in
+    let T : PModule = target S id f d (λ x. refl) o good in
+    let N : Plain = joined_table S id f d (λ x. refl) o good in
+    let is : N ≡ create_port S.plain id name dir range = table-is S id f d (λ x. refl) o good in
+    let s = holder-sound S id f (λ x. refl) o good in
+    let made = with_net-sound S id name range o good b.0 c.0 in
+    let same : All (λ (x : PPort). net_of T x.net ≡ net_of m x.net) m.ports = λ k x within. net-same m name range (get_or m.ports k x).net (s.ports_there k x within) in
+    let fits : (x n : PModule) (y : PInst) → All (KeepsConn x n) y.conns → FitPorts x m m.ports y.conns → FitPorts n T (m.ports ++ port ∷ []) (d y.conns) =
+    λ x n y keeps fit. fit-push n T m.ports y.conns port (fit_kept x n m T m.ports y.conns (λ k z within. ap width_of (same k z within)) keeps fit)
+    in
+    let below : IsBelow N S.plain Same = joined-isbelow S id f d (λ x. refl) o good (λ x. refl) fits in
+    let sound : IsSoundModule N T = record {
+      names = subst (λ ns. IsDistinct bytes_eq (map net_name (m.nets ++ new_net m.next_net name range ∷ []) ++ ns)) (sym (same-names S id f d (λ x. refl) o good m.insts)) made.names;
+      nets_rise = made.rise;
+      nets_below = made.below;
+      ranges = made.ranges;
+      ports_there = All-push (λ (x : PPort). IsSome (net_of T x.net)) m.ports port
+          (λ k x within. ap (λ (y : Option PNet). is_some y) (same k x within) ∙ s.ports_there k x within) (new-there m name range);
+      ports_differ = all_pairs_push (λ (x y : PPort). x.net ≢ y.net) m.ports port s.ports_differ (port-fresh S.plain m s);
+      insts_rise = joined-rise S id f d (λ x. refl) o good m.insts s.insts_rise;
+      insts_below = joined-below S id f d (λ x. refl) o good m.next_inst m.insts s.insts_below;
+      masters = All-map (HasMaster N T) (joined S id f d (λ x. refl) o good) m.insts (λ k x within.
+          let y : PInst = get_or m.insts k x in
+          let keeps : All (KeepsConn m T) y.conns = λ j z inside. keeps_wide m T (net-wide m name range) (get_or y.conns j z) in
+          has-joined S id f d (λ x. refl) o good m T y (s.masters k x within) keeps (fits m T y keeps));
+      cell = no_cell m T o.inner refl;
+    } in
+    let within : IsWithin N S.top = record {
+      depth = short-below N S.plain Same below good.table.sound good.table.within.depth (λ at. (at, refl));
+      size = omega (arith, size-below N S.plain Same below S.top S.top refl, good.table.within.size);
+      bits = few-bits N S.top (subst (λ (table : Plain). has_too_many_bits table S.top ≡ false) (sym is) e.0);
+    } in
+    stays S (create_port S.plain id name dir range) good
+    (subst (λ (table : Plain). KeepsGood S.plain table S.top) is
+    (joined-good S id f d (λ x. refl) o good (λ x. refl) fits (λ x. refl) (λ x. refl) sound within))
+
+-- DeletePort
+
+-- the one item that passes is taken out
+filter-out : {X : Type 0} (p : X → Bool) (xs : List X) (k : ℕ) → k < length xs → ((d : X) → p (get_or xs k d) ≡ true) → ((j : ℕ) (d : X) → j < length xs → (j ≡ k → ⊥) → p (get_or xs j d) ≡ false)
+    → filter (λ x. not (p x)) xs ≡ remove xs k
+filter-out p [] k within here others = absurd (omega arith)
+filter-out {X} p (x ∷ xs) zero within here others =
+    ap (λ b. cond (not b) (x ∷ filter (λ y. not (p y)) xs) (filter (λ y. not (p y)) xs)) (here x)
+    ∙ all-kept xs (λ j d inside. others (suc j) d (omega arith) (λ same. omega arith))
+  where
+    all-kept : (xs : List X) → All (λ y. p y ≡ false) xs → filter (λ y. not (p y)) xs ≡ xs
+    all-kept [] apart = refl
+    all-kept (y ∷ ys) apart =
+        ap (λ b. cond (not b) (y ∷ filter (λ z. not (p z)) ys) (filter (λ z. not (p z)) ys)) (All-head (λ z. p z ≡ false) y ys apart)
+        ∙ ap (λ zs. y ∷ zs) (all-kept ys (All-tail (λ z. p z ≡ false) y ys apart))
+filter-out p (x ∷ xs) (suc k) within here others =
+    ap (λ b. cond (not b) (x ∷ filter (λ y. not (p y)) xs) (filter (λ y. not (p y)) xs)) (others zero x (omega arith) (λ same. omega arith))
+    ∙ ap (λ ys. x ∷ ys) (filter-out p xs k (omega arith) here (λ j d inside apart. others (suc j) d (omega arith) (λ same. apart (omega arith))))
+
+fit-remove : (m master : PModule) (ports : List PPort) (conns : List Conn) (k : ℕ) → FitPorts m master ports conns → FitPorts m master (remove ports k) (remove conns k)
+fit-remove m master [] [] zero fits = tt
+fit-remove m master [] [] (suc k) fits = tt
+fit-remove m master [] (conn ∷ conns) k fits = absurd fits
+fit-remove m master (port ∷ ports) [] k fits = absurd fits
+fit-remove m master (port ∷ ports) (conn ∷ conns) zero fits = fits.1
+fit-remove m master (port ∷ ports) (conn ∷ conns) (suc k) fits = (fits.0, fit-remove m master ports conns k fits.1)
+
+all-remove : {X : Type 0} (P : X → Type 0) (xs : List X) (k : ℕ) → All P xs → All P (remove xs k)
+all-remove P [] zero all = All-nil P
+all-remove P [] (suc k) all = All-nil P
+all-remove P (x ∷ xs) zero all = All-tail P x xs all
+all-remove P (x ∷ xs) (suc k) all = All-cons P x (remove xs k) (All-head P x xs all) (all-remove P xs k (All-tail P x xs all))
+
+-- what passes a filter passes its test
+filter-passes : {X : Type 0} (p : X → Bool) (xs : List X) → All (λ x. p x ≡ true) (filter p xs)
+filter-passes p [] = All-nil (λ x. p x ≡ true)
+filter-passes {X} p (x ∷ xs) = by (p x) refl (filter-passes p xs)
+  where
+    by : (b : Bool) → p x ≡ b → All (λ y. p y ≡ true) (filter p xs) → All (λ y. p y ≡ true) (cond b (x ∷ filter p xs) (filter p xs))
+    by true is rest = All-cons (λ y. p y ≡ true) x (filter p xs) is rest
+    by false is rest = rest
+
+module _ (M : Plain) (m : PModule) (s : IsSoundModule M m) (port : NetId) where
+  abbrev is_it : PPort → Bool
+  is_it p = p.net.0 == port.0
+
+  -- the ports without one, by its place
+  ports-without : (k : ℕ) → position is_it m.ports ≡ Some k → IsSome (port_of m port) → filter (λ p. not (is_it p)) m.ports ≡ remove m.ports k
+  ports-without k at some =
+      let it = some-there (port_of m port) some in
+      let here : slice_get m.ports k ≡ Some it.0 = find-from_place is_it m.ports k (sym at) ∙ it.1 in
+      let within : k < length m.ports = slice_get_within m.ports k it.0 here in
+      let passes : is_it it.0 ≡ true = find-passes is_it m.ports it.0 it.1 in
+      filter-out is_it m.ports k within (λ d. ap is_it (get_or_from_slice_get m.ports k it.0 d here) ∙ passes)
+      (λ j d inside apart. false_from_ne_true (is_it (get_or m.ports j d)) (λ yes_too.
+      let own : get_or m.ports k d ≡ it.0 = get_or_from_slice_get m.ports k it.0 d here in
+      let make : ℕ → NetId = λ n. record { 0 = n } in
+      let number_j : (get_or m.ports j d).net.0 ≡ port.0 = grind (arith, nat_tests) in
+      let number_k : it.0.net.0 ≡ port.0 = grind (arith, nat_tests) in
+      let same : (get_or m.ports j d).net ≡ (get_or m.ports k d).net = ap make number_j ∙ sym (ap make number_k) ∙ sym (ap (λ (p : PPort). p.net) own) in
+      ⊎_elim (λ (low : j < k). s.ports_differ j k d low within same)
+      (λ (from : k ≤ j). s.ports_differ k j d (omega (arith, from, apart)) inside (sym same))
+      (cases_lt j k)))
+
+  fit-without : (x : PModule) (conns : List Conn) (place : Option ℕ) → place ≡ position is_it m.ports → IsSome (port_of m port) → FitPorts x m m.ports conns
+      → FitPorts x m (filter (λ p. not (is_it p)) m.ports) (without_conn place conns)
+  fit-without x conns None at some fits =
+      let none : None ≡ find is_it m.ports = sym (found-nowhere is_it m.ports None at) in
+      absurd (false≢true (ap (λ (o : Option PPort). is_some o) none ∙ some))
+  fit-without x conns (Some k) at some fits =
+      subst (λ ports. FitPorts x m ports (remove conns k)) (sym (ports-without k (sym at) some)) (fit-remove x m m.ports conns k fits)
+
+keeps-without : (x n : PModule) (place : Option ℕ) (conns : List Conn) → All (KeepsConn x n) conns → All (KeepsConn x n) (without_conn place conns)
+keeps-without x n None conns all = all
+keeps-without x n (Some k) conns all = all-remove (KeepsConn x n) conns k all
+
+pub delete_port-good : (S : State) (id : ModId) (port : NetId) → IsGoodState S → Passes (delete_port_rules S id port) → IsGoodState (after S (DeletePort id port))
+delete_port-good S id port good p =
+    let a = common-passes S id p in
+    let b = first-passes a.1 in
+    let c = first-passes b.1 in
+    let e = first-passes c.1 in
+    let o : Opened S id = a.0 in
+    let m : PModule = o.holder in
+    let f : PModule → PModule = without_port port in
+    let place : Option ℕ = port_place (module_of S.plain id) port in
+    let d : List Conn → List Conn = without_conn place in
+    let at : place ≡ position (λ (x : PPort). x.net.0 == port.0) m.ports = ap (λ (x : Option PModule). port_place x port) o.found in
+    let T : PModule = target S id f d (λ x. refl) o good in
+    let N : Plain = joined_table S id f d (λ x. refl) o good in
+    let is : N ≡ delete_port S.plain id port = table-is S id f d (λ x. refl) o good in
+    let s = holder-sound S id f (λ x. refl) o good in
+    let some : IsSome (port_of m port) = let found = there (port_in S.plain id port) b.0 in sym (ap (λ (x : Option PModule). is_some (option_and_then (λ (y : PModule). port_of y port) x)) o.found) ∙ ap (λ (x : Option PPort). is_some x) found.1 in
+    let free : All (Unnamed port) m.insts = unnamed port m.insts (sym (ap (λ (x : Option PModule). is_net_used x port) o.found) ∙ e.0) in
+    let stays_net : PNet → Bool = λ other. not (other.id.0 == port.0) in
+    let stays_port : PPort → Bool = λ other. not (other.net.0 == port.0) in
+    let ports : List PPort = filter stays_port m.ports in
+    let other : (net : NetId) → (net.0 ≡ port.0 → ⊥) → net_of T net ≡ net_of m net = λ net apart. other-net m port net apart in
+    let same : All (λ (x : PPort). net_of T x.net ≡ net_of m x.net) ports
+    = All-weaker (λ (x : PPort). stays_port x ≡ true) (λ (x : PPort). net_of T x.net ≡ net_of m x.net) (λ x apart. other x.net (λ equal. grind (arith, nat_tests))) ports (filter-passes stays_port m.ports) in
+    let fits : (x n : PModule) (y : PInst) → All (KeepsConn x n) y.conns → FitPorts x m m.ports y.conns → FitPorts n T ports (d y.conns) =
+    λ x n y keeps fit. fit_kept x n m T ports (d y.conns) (λ k z within. ap width_of (same k z within)) (keeps-without x n place y.conns keeps) (fit-without S.plain m s port x y.conns place at some fit)
+    in
+    let old : NamesApart net_name inst_name m.nets m.insts = holder-names S id f (λ x. refl) o good in
+    let sound : IsSoundModule N T = record {
+      names = subst (λ ns. IsDistinct bytes_eq (map net_name (filter stays_net m.nets) ++ ns)) (sym (same-names S id f d (λ x. refl) o good m.insts))
+          (names.names_distinct net_name inst_name (filter stays_net m.nets) m.insts (record {
+            left = AllPairs-filter (λ x y. net_name x ≢ net_name y) stays_net m.nets old.left;
+            right = old.right;
+            across = All-filter stays_net (λ x. All (λ (y : PInst). net_name x ≢ inst_name y) m.insts) m.nets old.across;
+          }));
+      nets_rise = AllPairs-filter (λ (x y : PNet). x.id.0 < y.id.0) stays_net m.nets s.nets_rise;
+      nets_below = All-filter stays_net (λ (x : PNet). x.id.0 < m.next_net) m.nets s.nets_below;
+      ranges = All-filter stays_net (λ (x : PNet). IsAllowed x.range) m.nets s.ranges;
+      ports_there = λ k x within. ap (λ (y : Option PNet). is_some y) (same k x within) ∙ All-filter stays_port (λ (y : PPort). IsSome (net_of m y.net)) m.ports s.ports_there k x within;
+      ports_differ = AllPairs-filter (λ (x y : PPort). x.net ≢ y.net) stays_port m.ports s.ports_differ;
+      insts_rise = joined-rise S id f d (λ x. refl) o good m.insts s.insts_rise;
+      insts_below = joined-below S id f d (λ x. refl) o good m.next_inst m.insts s.insts_below;
+      masters = All-map (HasMaster N T) (joined S id f d (λ x. refl) o good) m.insts (λ k x within.
+          let y : PInst = get_or m.insts k x in
+          let keeps : All (KeepsConn m T) y.conns = λ j z inside. keeps-unnamed m T port other (get_or y.conns j z) (free k x within j z inside) in
+          has-joined S id f d (λ x. refl) o good m T y (s.masters k x within) keeps (fits m T y keeps));
+      cell = no_cell m T o.inner refl;
+    } in
+    let few : bits_of (Some T) ≤ bits_of (Some m) = rw o.inner (sum-filter (λ (x : PNet). width x.range) stays_net m.nets) in
+    stays S (delete_port S.plain id port) good
+    (subst (λ (table : Plain). KeepsGood S.plain table S.top) is
+    (joined-good S id f d (λ x. refl) o good (λ x. refl) fits (λ x. refl) (λ x. refl) sound
+    (joined-within S id f d (λ x. refl) o good (λ x. refl) fits few)))
