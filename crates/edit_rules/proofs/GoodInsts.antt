@@ -22,6 +22,7 @@ use Rattle.emh_base.specs.declared.rule.Refusal.{Refusal}
 use Rattle.emh_base.specs.declared.edit.Edit.TheVariants.{RenameInst, Connect, Disconnect, DeleteInst}
 use Rattle.flatten_rules.specs.Lookup.{module_of, net_of, port_of, inst_of, width_of}
 use Rattle.flatten_rules.specs.Domains.{ports_of}
+use Rattle.flatten_rules.specs.Limits.{IsWithin}
 use Rattle.flatten_rules.specs.Sound.{IsSource, FitsPort, FitPorts, HasMaster, IsSoundModule, IsSound}
 use Rattle.flatten_rules.proofs.Places.{find-from_place}
 use Rattle.flatten_rules.proofs.Walks.{find-own, find-passes, same-some}
@@ -79,14 +80,18 @@ pub below-map : (h : PInst → PInst) → ((x : PInst) → (h x).master ≡ x.ma
 below-map h same [] = tt
 below-map h same (x ∷ xs) = inl (same x, below-map h same xs)
 
-module _ (S : State) (id : ModId) (i : InstId) (c : PInst → PInst) (ids : (x : PInst) → (c x).id ≡ x.id) (masters : (x : PInst) → (c x).master ≡ x.master) where
+module _ (S : State) (id : ModId) (i : InstId) (c : PInst → PInst) (ids : (x : PInst) → (c x).id ≡ x.id) where
   abbrev f : PModule → PModule
   f m = with_insts (at_inst i c) m
 
+  -- walks stay where masters do
+  pub inst-within : (o : Opened S id) → IsGoodState S → ((x : PInst) → (c x).master ≡ x.master) → IsWithin (with_inst S.plain id i c) S.top
+  inst-within o good masters = within-changed S id f (λ m. refl) o good (below-map (at_inst i c) (inst-keeps i c (λ y. y.master) masters) o.holder.insts) (omega arith)
+
   pub inst-table : (o : Opened S id) (x : PInst) → IsGoodState S → inst_of o.holder i ≡ Some x
       → IsDistinct bytes_eq (map net_name o.holder.nets ++ map inst_name (map (at_inst i c) o.holder.insts))
-      → (HasMaster S.plain o.holder x → HasMaster S.plain o.holder (c x)) → KeepsGood S.plain (with_inst S.plain id i c) S.top
-  inst-table o x good found distinct again =
+      → (HasMaster S.plain o.holder x → HasMaster S.plain o.holder (c x)) → IsWithin (with_inst S.plain id i c) S.top → KeepsGood S.plain (with_inst S.plain id i c) S.top
+  inst-table o x good found distinct again within =
       let N : Plain = with_inst S.plain id i c in
       let s = holder-sound S id f (λ m. refl) o good in
       let ports : SamePorts o.holder (f o.holder) = record { ports = refl; widths = λ k d within. refl } in
@@ -112,7 +117,7 @@ module _ (S : State) (id : ModId) (i : InstId) (c : PInst → PInst) (ids : (x :
         masters = All-map (HasMaster N (f o.holder)) (at_inst i c) insts (λ k d within. has (at_inst i c (get_or insts k d)) (each k d within (s.masters k d within)));
         cell = no_cell o.holder (f o.holder) o.inner refl;
       })
-      (within-changed S id f (λ m. refl) o good (below-map (at_inst i c) (inst-keeps i c (λ y. y.master) masters) insts) (omega arith))
+      within
 
 -- the instance of an edit
 pub inst-there : (S : State) (id : ModId) (i : InstId) (o : Opened S id) → not (is_some (inst_in S.plain id i)) ≡ false → (x : PInst) × (inst_of o.holder i ≡ Some x) × (inst_in S.plain id i ≡ Some x)
@@ -138,7 +143,7 @@ rename_inst-good S id i name good p =
     let new_insts : All (λ (y : PInst). y.name ≢ name) insts = names.free inst_name name insts taken.1 in
     let old : NamesApart net_name inst_name nets insts = holder-names S id (λ m. m) (λ m. refl) o good in
     stays S (rename_inst S.plain id i name) good
-    (inst-table S id i new (λ y. refl) (λ y. refl) o x.0 good x.1
+    (inst-table S id i new (λ y. refl) o x.0 good x.1
     (names.names_distinct net_name inst_name nets (map (at_inst i new) insts) (record {
       left = old.left;
       right = names.apart-renamed inst_name number i.0 name new (λ y. refl) insts s.insts_rise new_insts old.right;
@@ -146,7 +151,7 @@ rename_inst-good S id i name good p =
           names.renamed-differs inst_name number i.0 name new (λ y. refl) (get_or insts j e) (net_name (get_or nets k d))
           (λ equal. new_nets k d within (sym equal)) (λ equal. old.across k d within j e inside (sym equal)) (sym same));
     }))
-    (λ h. h))
+    (λ h. h) (inst-within S id i new (λ y. refl) o good (λ y. refl)))
 
 -- Connect and Disconnect
 
@@ -186,11 +191,12 @@ conn-table S id i port conn o x good found is here =
     let new : PInst → PInst = with_conns (set_conn place conn) in
     let s = holder-sound S id (λ m. m) (λ m. refl) o good in
     let same : map inst_name (map (at_inst i new) o.holder.insts) ≡ map inst_name o.holder.insts = map-through inst_name (at_inst i new) (inst-keeps i new inst_name (λ y. refl)) o.holder.insts in
-    inst-table S id i new (λ y. refl) (λ y. refl) o x good found
+    inst-table S id i new (λ y. refl) o x good found
     (subst (λ ns. IsDistinct bytes_eq (map net_name o.holder.nets ++ ns)) (sym same) s.names)
     (λ has.
     let Has : Option ℕ → Type 0 = λ at. HasMaster S.plain o.holder (with_conns (set_conn at conn) x) in
     subst Has (sym at) (has-conn S.plain o.holder x port conn has here))
+    (inst-within S id i new (λ y. refl) o good (λ y. refl))
 
 pub disconnect-good : (S : State) (id : ModId) (i : InstId) (port : NetId) → IsGoodState S → Passes (disconnect_rules S id i port) → IsGoodState (after S (Disconnect id i port))
 disconnect-good S id i port good p =

@@ -147,7 +147,7 @@ delete_net-good S id net good p =
 
 -- CreateNet
 
-at_most : (limit n : ℕ) → nat_lt limit n ≡ false → n ≤ limit
+pub at_most : (limit n : ℕ) → nat_lt limit n ≡ false → n ≤ limit
 at_most limit n e = grind (arith, nat_tests)
 
 pub range-allowed : (range : Option Range) → is_too_wide range ≡ false → IsAllowed range

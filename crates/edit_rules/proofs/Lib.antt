@@ -19,3 +19,4 @@ pub mod GoodInsts
 pub mod GoodNets
 pub mod GoodModules
 pub mod GoodPorts
+pub mod GoodMasters
