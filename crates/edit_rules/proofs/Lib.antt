@@ -20,3 +20,4 @@ pub mod GoodNets
 pub mod GoodModules
 pub mod GoodPorts
 pub mod GoodMasters
+pub mod GoodCopies

@@ -1,6 +1,7 @@
 use Rattle.edit_rules.proofs.GoodWalks as walks
 use Rattle.edit_rules.proofs.GoodTables as tables
 use Rattle.edit_rules.proofs.GoodChecks as checks
+use Rattle.edit_rules.proofs.GoodCopies as copies
 use Rattle.edit_rules.proofs.GoodMasters as masters
 use Rattle.edit_rules.proofs.GoodPorts as ports
 use Rattle.edit_rules.proofs.GoodModules as modules
