@@ -21,3 +21,4 @@ pub mod GoodModules
 pub mod GoodPorts
 pub mod GoodMasters
 pub mod GoodCopies
+pub mod GoodLaw
