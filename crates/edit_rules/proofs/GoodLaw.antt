@@ -1,11 +1,17 @@
 -- The law of good states, edit by edit.
-use Rattle.std.proofs.Common.{◌≡◌, None}
+use Rattle.std.proofs.Common.{◌≡◌, Option, Some, None, Result, Ok, Err, refl, sym, subst}
 use Rattle.emh_base.specs.declared.state.State.{State}
+use Rattle.emh_base.specs.declared.rule.Refusal.{Refusal}
+use Rattle.emh_base.specs.declared.edit.By.{By}
+use Rattle.emh_base.specs.declared.edit.Change.{Change}
 use Rattle.emh_base.specs.declared.edit.Edit.{Edit}
 use Rattle.emh_base.specs.declared.edit.Edit.TheVariants.{CreateModule, DeleteModule, CreateNet, DeleteNet, CreatePort, DeletePort, CreateInst, DeleteInst, Connect, Disconnect, RenameModule, RenameNet, RenameInst, Resize, Uniquify, Place, Unplace, Lock, Unlock, SetFanout, SetGrid}
 use Rattle.edit_rules.specs.Check.{first_broken}
 use Rattle.edit_rules.specs.Good.{IsGoodState}
-use Rattle.edit_rules.specs.Apply.{checks, after}
+use Rattle.edit_rules.specs.declared.judged.Judged.{Judged}
+use Rattle.edit_rules.specs.declared.judged.Judged.TheVariants.{Rule, NoMemory}
+use Rattle.edit_rules.specs.Judged.{Answers}
+use Rattle.edit_rules.specs.Apply.{checks, after, Refused, Done, applied, apply}
 use Rattle.edit_rules.specs.Law.{StaysGood}
 use Rattle.edit_rules.proofs.GoodChecks.{Passes}
 use Rattle.edit_rules.proofs.GoodStates.{set_fanout-good, set_grid-good, place-good, unplace-good}
@@ -42,3 +48,13 @@ each S (SetGrid grid) good p = set_grid-good S grid good p
 
 pub stays_good : StaysGood
 stays_good S e good none = each S e good (record { none = none })
+
+done : (S T : State) (by : By) (e : Edit) (c : Change) (broken : Option Refusal) → IsGoodState S → first_broken (checks S e) ≡ broken → applied S by e broken ≡ Done T c → IsGoodState T
+done S T by e c None good none is = let same : after S e ≡ T = cc in subst IsGoodState same (stays_good S e good none)
+done S T by e c (Some refusal) good some is = let never : Refused refusal ≡ Done T c = is in absurd (cc)
+
+-- so does each answer
+pub answers-good : (S T : State) (by : By) (e : Edit) (r : Result Change Judged) → IsGoodState S → Answers (apply S by e) S r T → IsGoodState T
+answers-good S T by e (Ok c) good is = done S T by e c (first_broken (checks S e)) good refl is
+answers-good S T by e (Err (Rule refusal)) good is = subst IsGoodState (sym is.1) good
+answers-good S T by e (Err NoMemory) good is = subst IsGoodState (sym is) good
