@@ -1,5 +1,5 @@
 -- A copy of a master, for one of its instances, keeps a good state good.
-use Rattle.std.proofs.Common.{◌≡◌, ◌≢◌, ℕ, ◌+◌, ◌==◌, ◌<◌, ◌≤◌, ◌⊎◌, inl, inr, ⊎_elim, Bool, true, false, cond, List, [], ◌∷◌, ◌++◌, map, find, length, get_or, Option, Some, None, option_map, is_some, IsSome, MatchOption, All, AllPairs, IsTrue, bytes_eq, refl, sym, ap, ◌∙◌, subst, arith}
+use Rattle.std.proofs.Common.{◌≡◌, ◌≢◌, ℕ, ◌+◌, ◌==◌, ◌<◌, ◌≤◌, ◌⊎◌, inl, inr, ⊎_elim, true, false, cond, List, [], ◌∷◌, ◌++◌, map, find, get_or, Option, Some, None, option_map, MatchOption, All, bytes_eq, refl, sym, ap, ◌∙◌, subst, arith}
 use Rattle.std.specs.List.{IsDistinct}
 use Rattle.std.specs.Option.{option_or}
 use Rattle.std.proofs.lemmas.Bool.{true≢false, cases_eq, false_from_ne_true}
@@ -10,7 +10,6 @@ use Rattle.std.proofs.lemmas.List.Quantifiers.{all_pairs_push}
 use Rattle.emh_base.specs.declared.ids.ModId.{ModId}
 use Rattle.emh_base.specs.declared.ids.InstId.{InstId}
 use Rattle.emh_base.specs.declared.plain.PNet.{PNet}
-use Rattle.emh_base.specs.declared.plain.PPort.{PPort}
 use Rattle.emh_base.specs.declared.plain.PInst.{PInst}
 use Rattle.emh_base.specs.declared.plain.PModule.{PModule}
 use Rattle.emh_base.specs.declared.plain.Plain.{Plain}
@@ -20,11 +19,11 @@ use Rattle.flatten_rules.specs.Lookup.{module_of, inst_of, insts_of}
 use Rattle.flatten_rules.specs.Domains.{is_leaf}
 use Rattle.flatten_rules.specs.Design.{IsInner}
 use Rattle.flatten_rules.specs.Limits.{bits_of, IsWithin}
-use Rattle.flatten_rules.specs.Sound.{FitPorts, HasMaster, IsSoundModule, IsSound}
+use Rattle.flatten_rules.specs.Sound.{FitPorts, HasMaster, IsSoundModule}
 use Rattle.flatten_rules.proofs.Sound.{All-find, sound-module, master-there}
 use Rattle.flatten_rules.proofs.Walks.{id-of_found, found-own, find-own, find-passes, some-there}
 use Rattle.edit_rules.specs.Readers.{inst_in, master_of, master_id}
-use Rattle.edit_rules.specs.Changes.{with_insts, with_last_module}
+use Rattle.edit_rules.specs.Changes.{with_insts}
 use Rattle.edit_rules.specs.Insts.{with_master, with_copy, uniquify, uniquify_rules}
 use Rattle.edit_rules.specs.Good.{IsGoodState}
 use Rattle.edit_rules.specs.Apply.{after}
@@ -35,7 +34,7 @@ use Rattle.edit_rules.proofs.GoodChecks.{Passes, first-passes, Opened, common-pa
 use Rattle.edit_rules.proofs.GoodStates.{KeepsGood, stays}
 use Rattle.edit_rules.proofs.GoodNames as names
 use Rattle.edit_rules.proofs.GoodNames.{Apart}
-use Rattle.edit_rules.proofs.GoodKept.{insts_kept, keeps_wide, no_cell, holder-sound, names-stay}
+use Rattle.edit_rules.proofs.GoodKept.{insts_kept, keeps_wide, no_cell, names-stay}
 use Rattle.edit_rules.proofs.GoodInsts.{at_inst, inst-keeps, each-inst, inst-there}
 use Rattle.edit_rules.proofs.GoodModules.{kept-last}
 use Rattle.edit_rules.proofs.GoodMasters.{below-each, below-alone}

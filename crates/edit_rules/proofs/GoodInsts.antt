@@ -1,7 +1,7 @@
 -- Edits of one instance, and one instance less, keep a good state good.
-use Rattle.std.proofs.Common.{◌≡◌, ◌≢◌, ℕ, zero, suc, ◌==◌, ◌<◌, ◌≤◌, nat_le, Bool, true, false, cond, not, inl, inr, List, [], ◌∷◌, ◌++◌, map, filter, find, position, length, get_or, set, slice_get, slice_set, Option, Some, None, option_map, option_and_then, is_some, IsSome, MatchOption, All, AllPairs, IsTrue, bytes_eq, refl, sym, ap, ◌∙◌, subst, arith}
-use Rattle.std.specs.List.{IsDistinct, list_any, flat_map}
-use Rattle.std.proofs.lemmas.Bool.{or_parts, true≢false}
+use Rattle.std.proofs.Common.{◌≡◌, ◌≢◌, ℕ, zero, suc, ◌==◌, ◌<◌, nat_le, Bool, true, false, cond, not, inl, inr, List, [], ◌∷◌, ◌++◌, map, filter, position, length, get_or, slice_get, slice_set, Option, Some, None, option_and_then, is_some, MatchOption, All, AllPairs, bytes_eq, refl, sym, ap, ◌∙◌, subst, arith}
+use Rattle.std.specs.List.{IsDistinct, flat_map}
+use Rattle.std.proofs.lemmas.Bool.{or_parts}
 use Rattle.std.proofs.lemmas.Bool.Decides.{nat_tests}
 use Rattle.std.proofs.lemmas.List.Elements.{All-map, All-weaker, All-filter, All-nil, All-cons}
 use Rattle.std.proofs.lemmas.List.Kept.{AllPairs-filter}
@@ -21,20 +21,19 @@ use Rattle.emh_base.specs.declared.state.State.{State}
 use Rattle.emh_base.specs.declared.rule.Refusal.{Refusal}
 use Rattle.emh_base.specs.declared.edit.Edit.TheVariants.{RenameInst, Connect, Disconnect, DeleteInst}
 use Rattle.flatten_rules.specs.Lookup.{module_of, net_of, port_of, inst_of, width_of}
-use Rattle.flatten_rules.specs.Domains.{ports_of}
 use Rattle.flatten_rules.specs.Limits.{IsWithin}
-use Rattle.flatten_rules.specs.Sound.{IsSource, FitsPort, FitPorts, HasMaster, IsSoundModule, IsSound}
+use Rattle.flatten_rules.specs.Sound.{IsSource, FitsPort, FitPorts, HasMaster}
 use Rattle.flatten_rules.proofs.Places.{find-from_place}
 use Rattle.flatten_rules.proofs.Walks.{find-own, find-passes, same-some}
 use Rattle.edit_rules.specs.Check.{Check, first_broken}
-use Rattle.edit_rules.specs.Readers.{is_name_in, inst_in, net_in, port_in, master_of, master_id, port_place}
-use Rattle.edit_rules.specs.Changes.{with_module, with_insts, with_inst, with_conns}
+use Rattle.edit_rules.specs.Readers.{is_name_in, inst_in, net_in, master_of, master_id, port_place}
+use Rattle.edit_rules.specs.Changes.{with_insts, with_inst, with_conns}
 use Rattle.edit_rules.specs.Insts.{rename_inst, rename_inst_rules, delete_inst, delete_inst_rules, connect, connect_rules, disconnect, disconnect_rules, with_conn, set_conn, source_rules, width_rules}
 use Rattle.edit_rules.specs.Good.{IsGoodState}
 use Rattle.edit_rules.specs.Apply.{after}
 use Rattle.edit_rules.proofs.OrderLemmas.{rises-map}
 use Rattle.edit_rules.proofs.GoodWalks.{AreBelow}
-use Rattle.edit_rules.proofs.GoodTables.{SamePorts, KeepsConn, KeepsMasters, Same, below-own, master_kept, map-through}
+use Rattle.edit_rules.proofs.GoodTables.{SamePorts, KeepsMasters, Same, master_kept, map-through}
 use Rattle.edit_rules.proofs.GoodChecks.{Passes, first-passes, Opened, common-passes, there, not-false}
 use Rattle.edit_rules.proofs.GoodStates.{KeepsGood, stays}
 use Rattle.edit_rules.proofs.GoodNames as names

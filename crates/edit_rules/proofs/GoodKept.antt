@@ -1,6 +1,6 @@
 -- Edits of one module that keep its ports: what a good table asks of the table after such an edit.
-use Rattle.std.proofs.Common.{◌≡◌, ℕ, ◌==◌, ◌<◌, ◌≤◌, Bool, true, false, cond, List, [], ◌∷◌, map, get_or, Option, Some, None, All, IsTrue, bytes_eq, refl, sym, ap, ◌∙◌, subst, arith}
-use Rattle.std.specs.List.{IsDistinct, list_any}
+use Rattle.std.proofs.Common.{◌≡◌, ◌≤◌, true, false, List, map, get_or, Some, All, IsTrue, bytes_eq, refl, sym, ◌∙◌, subst, arith}
+use Rattle.std.specs.List.{IsDistinct}
 use Rattle.std.proofs.lemmas.Bool.{true≢false}
 use Rattle.std.proofs.lemmas.List.Elements.{All-weaker}
 use Rattle.emh_base.specs.declared.ids.ModId.{ModId}
@@ -14,15 +14,15 @@ use Rattle.emh_base.specs.declared.plain.PInst.{PInst}
 use Rattle.emh_base.specs.declared.plain.PModule.{PModule}
 use Rattle.emh_base.specs.declared.plain.Plain.{Plain}
 use Rattle.emh_base.specs.declared.state.State.{State}
-use Rattle.flatten_rules.specs.Lookup.{module_of, net_of, width_of}
+use Rattle.flatten_rules.specs.Lookup.{net_of, width_of}
 use Rattle.flatten_rules.specs.Limits.{bits_of, IsWithin}
-use Rattle.flatten_rules.specs.Sound.{IsSource, HasMaster, IsCell, IsSoundModule, IsSound}
+use Rattle.flatten_rules.specs.Sound.{IsSource, HasMaster, IsCell, IsSoundModule}
 use Rattle.flatten_rules.proofs.Sound.{sound-module}
 use Rattle.flatten_rules.proofs.Walks.{found-own}
 use Rattle.edit_rules.specs.Good.{IsGoodState}
 use Rattle.edit_rules.specs.Changes.{with_module}
 use Rattle.edit_rules.proofs.GoodWalks.{AreBelow, IsBelow}
-use Rattle.edit_rules.proofs.GoodTables.{SamePorts, same_ports-own, KeepsConn, KeepsMasters, master_kept, masters_kept, module_kept, mapped, Same, below-own, IsOwn, masters-mapped, cells-mapped, inner-mapped, below-mapped, within-mapped, sound-mapped, map-through, changed, changed-keeps, each-changed}
+use Rattle.edit_rules.proofs.GoodTables.{SamePorts, same_ports-own, KeepsConn, KeepsMasters, master_kept, module_kept, Same, below-own, IsOwn, masters-mapped, cells-mapped, inner-mapped, below-mapped, within-mapped, sound-mapped, map-through, changed, changed-keeps, each-changed}
 use Rattle.edit_rules.proofs.GoodChecks.{Opened}
 use Rattle.edit_rules.proofs.GoodStates.{KeepsGood}
 use Rattle.edit_rules.proofs.GoodNames.{NamesApart, names_apart}

@@ -1,12 +1,11 @@
 -- A new instance, another cell as master and a copy of a master keep a good state good.
-use Rattle.std.proofs.Common.{◌≡◌, ◌≢◌, ℕ, zero, suc, ◌+◌, ◌==◌, ◌<◌, ◌≤◌, ◌⊎◌, inl, inr, ⊎_elim, ◌&&◌, nat_lt, Bool, true, false, cond, not, List, [], ◌∷◌, ◌++◌, map, find, zip, length, get_or, sum_by, Option, Some, None, option_map, option_and_then, is_some, IsSome, MatchOption, All, AllPairs, IsTrue, bytes_eq, refl, sym, ap, ◌∙◌, subst, arith}
-use Rattle.std.specs.List.{IsDistinct, list_any, list_all}
-use Rattle.std.proofs.lemmas.Bool.{true≢false, false≢true, cases_eq, or_parts}
+use Rattle.std.proofs.Common.{◌≡◌, ◌≢◌, ℕ, ◌+◌, ◌==◌, ◌<◌, ◌≤◌, ◌⊎◌, inl, inr, ⊎_elim, ◌&&◌, nat_lt, Bool, true, false, List, [], ◌∷◌, ◌++◌, map, zip, length, get_or, Option, Some, None, option_map, MatchOption, All, bytes_eq, refl, sym, ap, ◌∙◌, subst, arith}
+use Rattle.std.specs.List.{IsDistinct, list_all}
+use Rattle.std.proofs.lemmas.Bool.{true≢false, false≢true, or_parts}
 use Rattle.std.proofs.lemmas.Bool.Decides.{nat_tests}
-use Rattle.std.proofs.lemmas.List.Elements.{All-map, All-weaker, All-push, All-nil, All-cons, All-head, All-tail}
+use Rattle.std.proofs.lemmas.List.Elements.{All-weaker, All-push, All-head, All-tail}
 use Rattle.std.proofs.lemmas.List.Quantifiers.{all_pairs_push}
 use Rattle.emh_base.specs.declared.ids.ModId.{ModId}
-use Rattle.emh_base.specs.declared.ids.NetId.{NetId}
 use Rattle.emh_base.specs.declared.ids.InstId.{InstId}
 use Rattle.emh_base.specs.declared.plain.Range.{Range}
 use Rattle.emh_base.specs.declared.plain.Conn.{Conn}
@@ -18,24 +17,24 @@ use Rattle.emh_base.specs.declared.plain.PModule.{PModule}
 use Rattle.emh_base.specs.declared.plain.Plain.{Plain}
 use Rattle.emh_base.specs.declared.state.State.{State}
 use Rattle.emh_base.specs.declared.edit.Edit.TheVariants.{CreateInst, Resize}
-use Rattle.flatten_rules.specs.Lookup.{module_of, net_of, inst_of, insts_of, width, width_of}
+use Rattle.flatten_rules.specs.Lookup.{module_of, net_of, insts_of, width, width_of}
 use Rattle.flatten_rules.specs.Unfolding.{occurrences}
-use Rattle.flatten_rules.specs.Domains.{is_leaf, ports_of}
+use Rattle.flatten_rules.specs.Domains.{is_leaf}
 use Rattle.flatten_rules.specs.Extent.{height}
-use Rattle.flatten_rules.specs.Limits.{bits_of, WalksAreShort, IsWithin}
-use Rattle.flatten_rules.specs.Sound.{FitsPort, FitPorts, HasMaster, IsSoundModule, IsSound}
+use Rattle.flatten_rules.specs.Limits.{bits_of, WalksAreShort}
+use Rattle.flatten_rules.specs.Sound.{FitsPort, FitPorts, HasMaster, IsSoundModule}
 use Rattle.flatten_rules.proofs.Sound.{All-find, sound-module}
 use Rattle.flatten_rules.proofs.Walks.{id-of_found, found-own, within-by_cases, walks-within}
 use Rattle.edit_rules.specs.Readers.{is_name_in, inst_in, master_of, same_dir, same_range, same_net, same_port, same_ports}
-use Rattle.edit_rules.specs.Limits.{is_too_deep, has_too_many_occurrences}
-use Rattle.edit_rules.specs.Changes.{with_module, with_insts, with_inst}
+use Rattle.edit_rules.specs.Limits.{is_too_deep}
+use Rattle.edit_rules.specs.Changes.{with_insts}
 use Rattle.edit_rules.specs.Insts.{create_inst, create_inst_rules, with_new_inst, new_inst, all_open, with_master, resize_rules}
 use Rattle.edit_rules.specs.Good.{IsGoodState}
 use Rattle.edit_rules.specs.Apply.{after}
 use Rattle.edit_rules.proofs.GoodWalks.{AreBelow, IsBelow, within-below}
-use Rattle.edit_rules.proofs.GoodTables.{SamePorts, KeepsMasters, IsOwn, master_kept, mapped, lookup-mapped, each-mapped, map-through, changed, changed-keeps, each-changed}
+use Rattle.edit_rules.proofs.GoodTables.{SamePorts, KeepsMasters, master_kept, lookup-mapped, each-mapped, map-through, changed, changed-keeps, each-changed}
 use Rattle.edit_rules.proofs.GoodChecks.{Passes, first-passes, Opened, common-passes, there, not-false}
-use Rattle.edit_rules.proofs.GoodStates.{KeepsGood, stays}
+use Rattle.edit_rules.proofs.GoodStates.{stays}
 use Rattle.edit_rules.proofs.GoodNames as names
 use Rattle.edit_rules.proofs.GoodNames.{NamesApart}
 use Rattle.edit_rules.proofs.GoodKept.{insts_kept, keeps_wide, no_cell, holder-sound, holder-names, names-stay, masters-changed, changed-good}

@@ -1,6 +1,6 @@
 -- A module more and a module less keep a good state good.
-use Rattle.std.proofs.Common.{◌≡◌, ◌≢◌, ℕ, ◌+◌, ◌==◌, ◌<◌, ◌≤◌, nat_lt, Bool, true, false, cond, not, ⊎_elim, List, [], ◌∷◌, ◌++◌, map, filter, find, length, get_or, sum_by, count_by, Option, Some, None, is_some, IsSome, MatchOption, All, AllPairs, IsTrue, bytes_eq, refl, sym, ap, ◌∙◌, subst, arith}
-use Rattle.std.specs.List.{IsDistinct, list_any}
+use Rattle.std.proofs.Common.{◌≡◌, ◌≢◌, ℕ, ◌+◌, ◌==◌, ◌<◌, ◌≤◌, Bool, true, false, cond, not, ⊎_elim, List, [], ◌∷◌, ◌++◌, filter, find, get_or, sum_by, count_by, Option, Some, None, All, refl, sym, ap, ◌∙◌, subst, arith}
+use Rattle.std.specs.List.{IsDistinct}
 use Rattle.std.specs.Option.{option_or}
 use Rattle.std.proofs.lemmas.Bool.{true≢false, cases_eq}
 use Rattle.std.proofs.lemmas.Bool.Decides.{nat_tests}
@@ -18,16 +18,16 @@ use Rattle.emh_base.specs.declared.edit.Edit.TheVariants.{CreateModule, DeleteMo
 use Rattle.flatten_rules.specs.Lookup.{module_of, insts_of}
 use Rattle.flatten_rules.specs.Limits.{bits_of, IsWithin}
 use Rattle.flatten_rules.specs.Design.{IsInner}
-use Rattle.flatten_rules.specs.Sound.{HasMaster, IsCell, IsSoundModule, IsSound}
+use Rattle.flatten_rules.specs.Sound.{HasMaster, IsSoundModule, IsSound}
 use Rattle.edit_rules.specs.Readers.{users}
 use Rattle.edit_rules.specs.Changes.{with_last_module}
 use Rattle.edit_rules.specs.Modules.{create_module, create_module_rules, empty_module, delete_module, delete_module_rules}
 use Rattle.edit_rules.specs.Good.{IsGoodState}
 use Rattle.edit_rules.specs.Apply.{after}
 use Rattle.edit_rules.proofs.GoodWalks.{AreBelow, IsBelow, within-below, no_cycle-short}
-use Rattle.edit_rules.proofs.GoodTables.{same_ports-own, keeps-own, KeepsMaster, KeepsMasters, Same, below-own, master_kept, module_kept}
+use Rattle.edit_rules.proofs.GoodTables.{same_ports-own, keeps-own, KeepsMasters, Same, below-own, master_kept, module_kept}
 use Rattle.edit_rules.proofs.GoodChecks.{Passes, first-passes, Opened, opened}
-use Rattle.edit_rules.proofs.GoodStates.{KeepsGood, stays}
+use Rattle.edit_rules.proofs.GoodStates.{stays}
 use Rattle.edit_rules.proofs.GoodNames as names
 use Rattle.edit_rules.proofs.GoodNames.{Apart}
 use Rattle.edit_rules.proofs.GoodNets.{find-filter}

@@ -1,10 +1,10 @@
 -- A net more and a net less keep a good state good.
-use Rattle.std.proofs.Common.{◌≡◌, ◌≢◌, ℕ, ◌+◌, ◌-◌, ◌==◌, ◌<◌, ◌≤◌, nat_lt, Bool, true, false, cond, not, ◌||◌, List, [], ◌∷◌, ◌++◌, map, filter, find, length, get_or, sum_by, Option, Some, None, option_map, option_and_then, is_some, IsSome, All, AllPairs, IsTrue, bytes_eq, refl, sym, ap, ◌∙◌, subst, arith}
+use Rattle.std.proofs.Common.{◌≡◌, ◌≢◌, ℕ, ◌+◌, ◌==◌, ◌<◌, ◌≤◌, nat_lt, Bool, true, false, cond, not, ◌||◌, List, [], ◌∷◌, ◌++◌, map, filter, find, get_or, sum_by, Option, Some, None, option_and_then, is_some, IsSome, All, AllPairs, bytes_eq, refl, sym, ap, ◌∙◌, arith}
 use Rattle.std.specs.List.{IsDistinct, list_any}
 use Rattle.std.specs.Option.{option_or}
 use Rattle.std.proofs.lemmas.Bool.{or_parts, true≢false}
 use Rattle.std.proofs.lemmas.Bool.Decides.{nat_tests}
-use Rattle.std.proofs.lemmas.List.Elements.{All-map, All-weaker, All-filter, All-push, All-nil, All-cons}
+use Rattle.std.proofs.lemmas.List.Elements.{All-weaker, All-filter, All-push, All-nil, All-cons}
 use Rattle.std.proofs.lemmas.List.Folds.{find-append}
 use Rattle.std.proofs.lemmas.List.Kept.{AllPairs-filter}
 use Rattle.std.proofs.lemmas.List.Quantifiers.{all_pairs_push}
@@ -23,21 +23,20 @@ use Rattle.emh_base.specs.declared.plain.PModule.{PModule}
 use Rattle.emh_base.specs.declared.plain.Plain.{Plain}
 use Rattle.emh_base.specs.declared.state.State.{State}
 use Rattle.emh_base.specs.declared.edit.Edit.TheVariants.{CreateNet, DeleteNet}
-use Rattle.flatten_rules.specs.Lookup.{module_of, net_of, port_of, width, width_of, insts_of}
+use Rattle.flatten_rules.specs.Lookup.{module_of, net_of, port_of, width, width_of}
 use Rattle.flatten_rules.specs.Unfolding.{Occurrence, occurrences}
-use Rattle.flatten_rules.specs.Limits.{bits_of, IsWithin}
-use Rattle.flatten_rules.specs.Sound.{IsAllowed, IsSource, HasMaster, IsSoundModule, IsSound}
+use Rattle.flatten_rules.specs.Limits.{bits_of}
+use Rattle.flatten_rules.specs.Sound.{IsAllowed, IsSource}
 use Rattle.flatten_rules.proofs.Walks.{some-there}
-use Rattle.edit_rules.specs.Readers.{is_name_in, is_port, port_in, is_of_net, names_net, is_net_used, is_too_wide}
+use Rattle.edit_rules.specs.Readers.{is_name_in, is_of_net, names_net, is_net_used, is_too_wide}
 use Rattle.edit_rules.specs.Limits.{has_too_many_bits}
-use Rattle.edit_rules.specs.Changes.{with_module}
 use Rattle.edit_rules.specs.Nets.{create_net, create_net_rules, with_net, new_net, delete_net, delete_net_rules, without_net}
 use Rattle.edit_rules.specs.Good.{IsGoodState}
 use Rattle.edit_rules.specs.Apply.{after}
 use Rattle.edit_rules.proofs.GoodWalks.{IsBelow, short-below, size-below}
 use Rattle.edit_rules.proofs.GoodTables.{SamePorts, KeepsConn, KeepsMasters, Same, below-own, master_kept}
 use Rattle.edit_rules.proofs.GoodChecks.{Passes, first-passes, Opened, common-passes}
-use Rattle.edit_rules.proofs.GoodStates.{KeepsGood, stays}
+use Rattle.edit_rules.proofs.GoodStates.{stays}
 use Rattle.edit_rules.proofs.GoodNames as names
 use Rattle.edit_rules.proofs.GoodNames.{NamesApart, Apart}
 use Rattle.edit_rules.proofs.GoodKept.{insts_kept, no_cell, holder-sound, holder-names, names-stay, below-changed, within-changed, masters-changed, changed-good}

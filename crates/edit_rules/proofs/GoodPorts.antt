@@ -1,6 +1,6 @@
 -- A port more and a port less keep a good state good.
-use Rattle.std.proofs.Common.{◌≡◌, ◌≢◌, ℕ, zero, suc, ◌+◌, ◌==◌, ◌<◌, ◌≤◌, Bool, true, false, cond, not, ⊎_elim, List, [], ◌∷◌, ◌++◌, map, filter, find, position, length, get_or, slice_get, remove, sum_by, Option, Some, None, option_map, option_and_then, is_some, IsSome, MatchOption, All, AllPairs, IsTrue, bytes_eq, refl, sym, ap, ◌∙◌, subst, arith}
-use Rattle.std.specs.List.{IsDistinct, list_any}
+use Rattle.std.proofs.Common.{◌≡◌, ◌≢◌, ℕ, zero, suc, ◌==◌, ◌<◌, ◌≤◌, Bool, true, false, cond, not, ⊎_elim, List, [], ◌∷◌, ◌++◌, map, filter, find, position, length, get_or, slice_get, remove, Option, Some, None, option_map, option_and_then, is_some, IsSome, MatchOption, All, AllPairs, bytes_eq, refl, sym, ap, ◌∙◌, subst, arith}
+use Rattle.std.specs.List.{IsDistinct}
 use Rattle.std.specs.Option.{option_or}
 use Rattle.std.proofs.lemmas.Bool.{true≢false, false≢true, cases_lt, false_from_ne_true}
 use Rattle.std.proofs.lemmas.Bool.Decides.{nat_tests}
@@ -11,11 +11,10 @@ use Rattle.std.proofs.lemmas.List.Kept.{AllPairs-filter}
 use Rattle.std.proofs.lemmas.List.Quantifiers.{all_pairs_push}
 use Rattle.emh_base.specs.declared.ids.ModId.{ModId}
 use Rattle.emh_base.specs.declared.ids.NetId.{NetId}
-use Rattle.emh_base.specs.declared.ids.InstId.{InstId}
 use Rattle.emh_base.specs.declared.plain.Dir.{Dir}
 use Rattle.emh_base.specs.declared.plain.Range.{Range}
 use Rattle.emh_base.specs.declared.plain.Conn.{Conn}
-use Rattle.emh_base.specs.declared.plain.Conn.TheVariants.{Open, Bits}
+use Rattle.emh_base.specs.declared.plain.Conn.TheVariants.{Open}
 use Rattle.emh_base.specs.declared.plain.PNet.{PNet}
 use Rattle.emh_base.specs.declared.plain.PPort.{PPort}
 use Rattle.emh_base.specs.declared.plain.PInst.{PInst}
@@ -25,26 +24,26 @@ use Rattle.emh_base.specs.declared.state.State.{State}
 use Rattle.emh_base.specs.declared.edit.Edit.TheVariants.{CreatePort, DeletePort}
 use Rattle.flatten_rules.specs.Lookup.{module_of, net_of, port_of, width, width_of}
 use Rattle.flatten_rules.specs.Limits.{bits_of, IsWithin}
-use Rattle.flatten_rules.specs.Sound.{IsAllowed, FitsPort, FitPorts, HasMaster, IsCell, IsSoundModule, IsSound}
+use Rattle.flatten_rules.specs.Sound.{IsAllowed, FitPorts, HasMaster, IsSoundModule}
 use Rattle.flatten_rules.proofs.Sound.{All-find, sound-module}
 use Rattle.flatten_rules.proofs.Places.{find-from_place, found-nowhere}
 use Rattle.flatten_rules.proofs.Walks.{find-passes, id-of_found, id-of_net, some-there}
-use Rattle.edit_rules.specs.Readers.{is_name_in, port_in, port_place, is_net_used}
+use Rattle.edit_rules.specs.Readers.{port_in, port_place, is_net_used}
 use Rattle.edit_rules.specs.Limits.{has_too_many_bits}
 use Rattle.edit_rules.specs.Changes.{with_module, at_instances, with_insts, with_conns}
-use Rattle.edit_rules.specs.Nets.{create_port, create_port_rules, with_port, with_net, new_net, delete_port, delete_port_rules, without_port, without_net, without_conn}
+use Rattle.edit_rules.specs.Nets.{create_port, create_port_rules, with_port, with_net, new_net, delete_port, delete_port_rules, without_port, without_conn}
 use Rattle.edit_rules.specs.Good.{IsGoodState}
 use Rattle.edit_rules.specs.Apply.{after}
 use Rattle.edit_rules.proofs.OrderLemmas.{rises-map}
-use Rattle.edit_rules.proofs.GoodWalks.{AreBelow, IsBelow, short-below, size-below, within-below}
-use Rattle.edit_rules.proofs.GoodTables.{SamePorts, KeepsConn, KeepsMaster, fit_kept, master_kept, mapped, Same, IsOwn, lookup-mapped, cells-mapped, inner-mapped, below-mapped, within-mapped, sound-mapped, map-through, changed, changed-keeps, each-changed}
+use Rattle.edit_rules.proofs.GoodWalks.{AreBelow, IsBelow, short-below, size-below}
+use Rattle.edit_rules.proofs.GoodTables.{KeepsConn, fit_kept, master_kept, mapped, Same, IsOwn, lookup-mapped, cells-mapped, inner-mapped, below-mapped, within-mapped, sound-mapped, map-through, changed, changed-keeps, each-changed}
 use Rattle.edit_rules.proofs.GoodChecks.{Passes, first-passes, Opened, common-passes, there}
 use Rattle.edit_rules.proofs.GoodStates.{KeepsGood, stays}
 use Rattle.edit_rules.proofs.GoodNames as names
 use Rattle.edit_rules.proofs.GoodNames.{NamesApart}
 use Rattle.edit_rules.proofs.GoodKept.{keeps_wide, no_cell, holder-sound, holder-names}
 use Rattle.edit_rules.proofs.GoodInsts.{below-map}
-use Rattle.edit_rules.proofs.GoodNets.{none-found, sum-filter, Unnamed, unnamed, keeps-unnamed, other-net, net-same, net-wide, with_net-sound, few-bits}
+use Rattle.edit_rules.proofs.GoodNets.{sum-filter, Unnamed, unnamed, keeps-unnamed, other-net, net-same, net-wide, with_net-sound, few-bits}
 
 abbrev net_name : PNet → List ℕ
 net_name net = net.name

@@ -1,30 +1,25 @@
 -- A lock and a new name keep a good state good.
-use Rattle.std.proofs.Common.{◌≡◌, ◌≢◌, ℕ, ◌==◌, ◌<◌, ◌≤◌, Bool, true, false, cond, List, [], ◌∷◌, ◌++◌, map, find, length, get_or, Option, Some, None, option_map, is_some, IsSome, All, AllPairs, IsTrue, bytes_eq, sum_by, refl, sym, ap, ◌∙◌, subst, arith}
-use Rattle.std.specs.List.{IsDistinct, list_any}
+use Rattle.std.proofs.Common.{◌≡◌, ◌≢◌, ℕ, ◌==◌, ◌<◌, ◌≤◌, Bool, true, false, cond, List, [], ◌∷◌, map, find, get_or, Option, Some, None, option_map, is_some, All, sum_by, refl, sym, ap, ◌∙◌, subst, arith}
 use Rattle.std.proofs.lemmas.Bool.{or_parts}
 use Rattle.std.proofs.lemmas.List.Sums.{sum_by-cons}
 use Rattle.std.proofs.lemmas.List.Elements.{All-map, All-weaker}
 use Rattle.emh_base.specs.declared.ids.ModId.{ModId}
 use Rattle.emh_base.specs.declared.ids.NetId.{NetId}
-use Rattle.emh_base.specs.declared.ids.InstId.{InstId}
 use Rattle.emh_base.specs.declared.plain.PNet.{PNet}
-use Rattle.emh_base.specs.declared.plain.PPort.{PPort}
 use Rattle.emh_base.specs.declared.plain.PInst.{PInst}
 use Rattle.emh_base.specs.declared.plain.PModule.{PModule}
-use Rattle.emh_base.specs.declared.plain.Plain.{Plain}
 use Rattle.emh_base.specs.declared.state.State.{State}
-use Rattle.emh_base.specs.declared.edit.Edit.TheVariants.{RenameModule, RenameNet, RenameInst, Lock, Unlock}
-use Rattle.flatten_rules.specs.Lookup.{module_of, net_of, width, width_of}
+use Rattle.emh_base.specs.declared.edit.Edit.TheVariants.{RenameModule, RenameNet, Lock, Unlock}
+use Rattle.flatten_rules.specs.Lookup.{net_of, width, width_of}
 use Rattle.flatten_rules.specs.Limits.{bits_of}
-use Rattle.flatten_rules.specs.Sound.{IsAllowed, HasMaster, IsSoundModule, IsSound}
+use Rattle.flatten_rules.specs.Sound.{IsAllowed}
 use Rattle.edit_rules.specs.Readers.{is_name_in}
-use Rattle.edit_rules.specs.Changes.{with_module}
 use Rattle.edit_rules.specs.Modules.{with_lock, lock_rules, unlock_rules, rename_module, rename_module_rules}
 use Rattle.edit_rules.specs.Nets.{rename_net, rename_net_rules, renamed}
 use Rattle.edit_rules.specs.Good.{IsGoodState}
 use Rattle.edit_rules.specs.Apply.{after}
 use Rattle.edit_rules.proofs.OrderLemmas.{rises-map}
-use Rattle.edit_rules.proofs.GoodTables.{SamePorts, Same, below-own, find-map}
+use Rattle.edit_rules.proofs.GoodTables.{SamePorts, below-own, find-map}
 use Rattle.edit_rules.proofs.GoodChecks.{Passes, first-passes, Opened, opened, common-passes}
 use Rattle.edit_rules.proofs.GoodStates.{KeepsGood, stays}
 use Rattle.edit_rules.proofs.GoodNames as names
@@ -120,8 +115,13 @@ module _ (id : NetId) (name : List ℕ) where
   bits_called : (nets : List PNet) → sum_by (λ (net : PNet). width net.range) (map called nets) ≡ sum_by (λ (net : PNet). width net.range) nets
   bits_called [] = refl
   bits_called (net ∷ nets) =
-      omega (arith, sum_by-cons (λ (x : PNet). width x.range) (called net) (map called nets), sum_by-cons (λ (x : PNet). width x.range) net nets,
-      ap width (keeps (λ y. y.range) (net.id.0 == id.0) net refl), bits_called nets)
+      omega (
+        arith,
+        sum_by-cons (λ (x : PNet). width x.range) (called net) (map called nets),
+        sum_by-cons (λ (x : PNet). width x.range) net nets,
+        ap width (keeps (λ y. y.range) (net.id.0 == id.0) net refl),
+        bits_called nets,
+      )
 
 pub rename_net-good : (S : State) (id : ModId) (net : NetId) (name : List ℕ) → IsGoodState S → Passes (rename_net_rules S id net name) → IsGoodState (after S (RenameNet id net name))
 rename_net-good S id net name good p =

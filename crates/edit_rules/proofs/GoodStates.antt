@@ -2,7 +2,7 @@
 use Rattle.std.proofs.Common.{◌≡◌, ℕ, Bool, is_eq, Ordering, Less, Equal, Greater, true, false, cond, ◌&&◌, List, Option, Some, None, is_some, IsSome, IsTrue, refl, sym, ap, ◌∙◌, subst}
 use Rattle.std.specs.FinMap.{get, get-retain_keys, get-insert, get-remove, insert, remove}
 use Rattle.std.specs.Ordering.{eq_by_cmp}
-use Rattle.std.proofs.lemmas.Bool.{false≢true, true≢false}
+use Rattle.std.proofs.lemmas.Bool.{false≢true}
 use Rattle.emh_base.specs.Path.{path_cmp, path_total}
 use Rattle.emh_base.specs.Places.{PlacesByPath}
 use Rattle.emh_base.specs.declared.ids.ModId.{ModId}
@@ -16,8 +16,8 @@ use Rattle.emh_base.specs.declared.edit.Edit.TheVariants.{Place, Unplace, SetFan
 use Rattle.emh_base.proofs.PlacesLemmas.{path_apart}
 use Rattle.flatten_rules.specs.Lookup.{module_of}
 use Rattle.flatten_rules.specs.Design.{IsGood}
-use Rattle.edit_rules.specs.Readers.{is_buffer, are_buffer_ports, is_bad_fanout, is_bad_grid}
-use Rattle.edit_rules.specs.Spots.{is_leaf_path, kept, place_rules, unplace_rules}
+use Rattle.edit_rules.specs.Readers.{is_buffer, are_buffer_ports, is_bad_grid}
+use Rattle.edit_rules.specs.Spots.{is_leaf_path, kept, place_rules}
 use Rattle.edit_rules.specs.Settings.{set_fanout_rules, set_grid_rules}
 use Rattle.edit_rules.specs.Apply.{after}
 use Rattle.edit_rules.specs.Good.{IsFanout, IsGoodState}

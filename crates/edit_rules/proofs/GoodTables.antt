@@ -1,11 +1,9 @@
 -- Tables in which each module is changed by itself, and what stays of them.
-use Rattle.std.proofs.Common.{◌≡◌, ℕ, ◌==◌, ◌<◌, ◌≤◌, ◌⊎◌, inl, inr, ⊎_elim, Bool, true, false, cond, List, [], ◌∷◌, ◌++◌, length, get_or, map, find, Option, Some, None, option_map, All, AllPairs, MatchOption, bytes_eq, refl, sym, ap, ◌∙◌, subst, arith}
+use Rattle.std.proofs.Common.{◌≡◌, ℕ, ◌==◌, ◌<◌, ◌≤◌, inl, Bool, true, false, cond, List, [], ◌∷◌, get_or, map, find, Option, Some, None, option_map, All, MatchOption, bytes_eq, refl, sym, ap, ◌∙◌, subst, arith}
 use Rattle.std.specs.List.{IsDistinct}
-use Rattle.std.proofs.lemmas.Bool.{false≢true, true≢false}
 use Rattle.std.proofs.lemmas.Bool.Decides.{nat_tests}
 use Rattle.std.proofs.lemmas.List.Elements.{All-map, All-weaker, All-head, All-tail}
 use Rattle.emh_base.specs.declared.ids.ModId.{ModId}
-use Rattle.emh_base.specs.declared.plain.Src.{Src}
 use Rattle.emh_base.specs.declared.plain.Conn.{Conn}
 use Rattle.emh_base.specs.declared.plain.Conn.TheVariants.{Open, Bits}
 use Rattle.emh_base.specs.declared.plain.PPort.{PPort}
@@ -14,10 +12,9 @@ use Rattle.emh_base.specs.declared.plain.PModule.{PModule}
 use Rattle.emh_base.specs.declared.plain.Plain.{Plain}
 use Rattle.flatten_rules.specs.Lookup.{module_of, net_of, insts_of, width_of}
 use Rattle.flatten_rules.specs.Limits.{bits_of, WalksAreShort, IsWithin}
-use Rattle.flatten_rules.specs.Design.{IsInner, IsGood}
+use Rattle.flatten_rules.specs.Design.{IsInner}
 use Rattle.flatten_rules.specs.Sound.{IsSource, FitsPort, FitPorts, HasMaster, IsSoundModule, IsSound}
-use Rattle.flatten_rules.proofs.Sound.{All-find}
-use Rattle.flatten_rules.proofs.Walks.{find-own, id-of_found, found-own, same-some}
+use Rattle.flatten_rules.proofs.Walks.{find-own, found-own, same-some}
 use Rattle.edit_rules.proofs.OrderLemmas.{rises-map}
 use Rattle.edit_rules.proofs.GoodWalks.{AreBelow, IsBelow, within-below, no_cycle-short}
 

@@ -1,6 +1,5 @@
 -- A table whose modules stand each below one of another table: its walks are no longer, and it counts no more.
-use Rattle.std.proofs.Common.{◌≡◌, ℕ, zero, suc, ◌+◌, ◌<◌, ◌≤◌, max, ◌⊎◌, inl, inr, ⊎_elim, nat_lt, Bool, true, false, List, [], ◌∷◌, ◌++◌, length, sum_by, Option, Some, None, option_and_then, IsSome, refl, sym, ap, ◌∙◌, subst, arith}
-use Rattle.std.specs.List.{list_any}
+use Rattle.std.proofs.Common.{◌≡◌, ℕ, zero, suc, ◌+◌, ◌≤◌, ◌⊎◌, ⊎_elim, List, [], ◌∷◌, ◌++◌, length, sum_by, Option, Some, option_and_then, refl, sym, ap, ◌∙◌, arith}
 use Rattle.std.proofs.lemmas.List.{length-append}
 use Rattle.std.proofs.lemmas.List.Sums.{sum_by-cons}
 use Rattle.emh_base.specs.declared.ids.ModId.{ModId}
@@ -15,7 +14,6 @@ use Rattle.flatten_rules.specs.Limits.{bits_of, WalksAreShort, IsWithin}
 use Rattle.flatten_rules.specs.Extent.{height, total, greatest_by, one, bits_in}
 use Rattle.flatten_rules.specs.Sound.{IsSound}
 use Rattle.flatten_rules.proofs.Walks.{up-own, height-within, walks-within}
-use Rattle.edit_rules.proofs.HeightLemmas.{height-more}
 use Rattle.edit_rules.proofs.UnfoldLemmas.{length-sum_by, total-unfolded}
 
 -- the masters of some instances stand each below one of the others', in their order
@@ -58,8 +56,12 @@ module _ (N M : Plain) (Below : ModId → ModId → Type 0) (is : IsBelow N M Be
   unfolding total
   total-below f g low zero a b below = omega arith
   total-below f g low (suc levels) a b below =
-      omega (arith, low a b below, sum-below Below (λ (inst : PInst). total f N inst.master levels) (λ (inst : PInst). total g M inst.master levels)
-      (λ x y under. total-below f g low levels x.master y.master under) (insts_of (module_of N a)) (insts_of (module_of M b)) (is a b below))
+      omega (
+        arith,
+        low a b below,
+        sum-below Below (λ (inst : PInst). total f N inst.master levels) (λ (inst : PInst). total g M inst.master levels)
+            (λ x y under. total-below f g low levels x.master y.master under) (insts_of (module_of N a)) (insts_of (module_of M b)) (is a b below),
+      )
 
   -- walks are no longer
   pub short-below : IsSound M → WalksAreShort M → ((a : ModId) → (b : ModId) × Below a b) → WalksAreShort N
@@ -69,8 +71,14 @@ module _ (N M : Plain) (Below : ModId → ModId → Type 0) (is : IsBelow N M Be
   -- and there are no more occurrences
   pub size-below : (a b : ModId) → Below a b → length (occurrences N a) ≤ length (occurrences M b)
   size-below a b below =
-      omega (arith, length-sum_by (occurrences N a), length-sum_by (occurrences M b), total-unfolded one N 257 [] a, total-unfolded one M 257 [] b,
-      total-below one one (λ x y low. omega arith) 257 a b below)
+      omega (
+        arith,
+        length-sum_by (occurrences N a),
+        length-sum_by (occurrences M b),
+        total-unfolded one N 257 [] a,
+        total-unfolded one M 257 [] b,
+        total-below one one (λ x y low. omega arith) 257 a b below,
+      )
 
   -- nor bits
   pub bits-below : ((a b : ModId) → Below a b → bits_of (module_of N a) ≤ bits_of (module_of M b)) → (a b : ModId) → Below a b
