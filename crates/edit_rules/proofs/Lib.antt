@@ -16,3 +16,17 @@ pub mod MoreLemmas
 pub mod OutlineLemmas
 pub mod AlikeLemmas
 pub mod TopLemmas
+pub mod GoodWalks
+pub mod GoodChecks
+pub mod GoodTables
+pub mod GoodStates
+pub mod GoodNames
+pub mod GoodKept
+pub mod GoodRenames
+pub mod GoodInsts
+pub mod GoodNets
+pub mod GoodModules
+pub mod GoodPorts
+pub mod GoodMasters
+pub mod GoodCopies
+pub mod GoodLaw

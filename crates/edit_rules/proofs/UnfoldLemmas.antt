@@ -22,7 +22,7 @@ sum_by_same : {X : Type 0} (f g : X → ℕ) → ((x : X) → f x ≡ g x) → (
 sum_by_same f g same [] = refl
 sum_by_same f g same (x ∷ xs) = omega (arith, sum_by-cons f x xs, sum_by-cons g x xs, same x, sum_by_same f g same xs)
 
-length-sum_by : {X : Type 0} (xs : List X) → length xs ≡ sum_by (λ x. 1) xs
+pub length-sum_by : {X : Type 0} (xs : List X) → length xs ≡ sum_by (λ x. 1) xs
 length-sum_by [] = refl
 length-sum_by {X} (x ∷ xs) = omega (arith, sum_by-cons (λ (y : X). 1) x xs, length-sum_by xs)
 

@@ -16,3 +16,4 @@ pub mod Count
 pub mod Facts
 pub mod Ports
 pub mod Outline
+pub mod Law

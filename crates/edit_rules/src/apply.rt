@@ -212,9 +212,18 @@ fn unchanged(state: &State, looked: Result<(), Judged>) -> Result<Plain, Judged>
 }
 
 /// Does an edit of a good state, asked for by the user, or tells the first rule that it breaks. After an error the
-/// state is as before.
+/// state is as before. A good state stays good.
 pub fn apply_plain(state: &mut State, edit: &Edit) -> Result<Change, Judged>
     requires { IsGoodState state.old }
+    ensures answers { Answers (apply state.old By.User edit.now) state.old result state.new }
+    ensures good { IsGoodState state.new }
+{
+    apply_checked(state, edit)
+}
+
+/// Does an edit of a state whose table is sound, or tells the first rule that it breaks.
+fn apply_checked(state: &mut State, edit: &Edit) -> Result<Change, Judged>
+    requires { IsSound state.old.plain }
     ensures { Answers (apply state.old By.User edit.now) state.old result state.new }
 {
     let table = table_after(state, edit)?;
