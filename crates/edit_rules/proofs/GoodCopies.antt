@@ -9,7 +9,6 @@ use Rattle.std.proofs.lemmas.List.Folds.{find-append}
 use Rattle.std.proofs.lemmas.List.Quantifiers.{all_pairs_push}
 use Rattle.emh_base.specs.declared.ids.ModId.{ModId}
 use Rattle.emh_base.specs.declared.ids.InstId.{InstId}
-use Rattle.emh_base.specs.declared.plain.PNet.{PNet}
 use Rattle.emh_base.specs.declared.plain.PInst.{PInst}
 use Rattle.emh_base.specs.declared.plain.PModule.{PModule}
 use Rattle.emh_base.specs.declared.plain.Plain.{Plain}
@@ -33,17 +32,11 @@ use Rattle.edit_rules.proofs.GoodTables.{SamePorts, same_ports-own, KeepsMasters
 use Rattle.edit_rules.proofs.GoodChecks.{Passes, first-passes, Opened, common-passes}
 use Rattle.edit_rules.proofs.GoodStates.{KeepsGood, stays}
 use Rattle.edit_rules.proofs.GoodNames as names
-use Rattle.edit_rules.proofs.GoodNames.{Apart}
-use Rattle.edit_rules.proofs.GoodKept.{insts_kept, keeps_wide, no_cell, names-stay}
+use Rattle.edit_rules.proofs.GoodNames.{net_name, inst_name, Apart}
+use Rattle.edit_rules.proofs.GoodKept.{dressed_sound, keeps_wide, no_cell, names-stay}
 use Rattle.edit_rules.proofs.GoodInsts.{at_inst, inst-keeps, each-inst, inst-there}
 use Rattle.edit_rules.proofs.GoodModules.{kept-last}
 use Rattle.edit_rules.proofs.GoodMasters.{below-each, below-alone}
-
-abbrev net_name : PNet → List ℕ
-net_name net = net.name
-
-abbrev inst_name : PInst → List ℕ
-inst_name inst = inst.name
 
 abbrev called : PModule → List ℕ
 called m = m.name
@@ -206,20 +199,7 @@ module _ (S : State) (id : ModId) (i : InstId) (name : List ℕ) (o : Opened S i
       }
 
   copy-sound : IsSoundModule N copy
-  copy-sound =
-      let s = sound-module M x.master a good.table.sound is_master in
-      record {
-        names = s.names;
-        nets_rise = s.nets_rise;
-        nets_below = s.nets_below;
-        ranges = s.ranges;
-        ports_there = s.ports_there;
-        ports_differ = s.ports_differ;
-        insts_rise = s.insts_rise;
-        insts_below = s.insts_below;
-        masters = insts_kept M N a copy masters (λ net. omega arith) a.insts s.masters;
-        cell = no_cell a copy inner refl;
-      }
+  copy-sound = dressed_sound M N a new name false masters inner (sound-module M x.master a good.table.sound is_master)
 
   each-sound : (m : PModule) → IsOwn M m → IsSoundModule M m → IsSoundModule N (changed id f m)
   each-sound =

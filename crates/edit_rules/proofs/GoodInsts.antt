@@ -33,25 +33,15 @@ use Rattle.edit_rules.specs.Good.{IsGoodState}
 use Rattle.edit_rules.specs.Apply.{after}
 use Rattle.edit_rules.proofs.OrderLemmas.{rises-map}
 use Rattle.edit_rules.proofs.GoodWalks.{AreBelow}
-use Rattle.edit_rules.proofs.GoodTables.{SamePorts, KeepsMasters, Same, master_kept, map-through}
+use Rattle.edit_rules.proofs.GoodTables.{chosen_by, SamePorts, KeepsMasters, Same, master_kept, map-through}
 use Rattle.edit_rules.proofs.GoodChecks.{Passes, first-passes, Opened, common-passes, there, not-false}
 use Rattle.edit_rules.proofs.GoodStates.{KeepsGood, stays}
 use Rattle.edit_rules.proofs.GoodNames as names
-use Rattle.edit_rules.proofs.GoodNames.{NamesApart, Apart}
+use Rattle.edit_rules.proofs.GoodNames.{net_name, inst_name, NamesApart, Apart}
 use Rattle.edit_rules.proofs.GoodKept.{insts_kept, keeps_wide, no_cell, holder-sound, holder-names, names-stay, within-changed, masters-changed, changed-good}
-
-abbrev net_name : PNet → List ℕ
-net_name net = net.name
-
-abbrev inst_name : PInst → List ℕ
-inst_name inst = inst.name
 
 abbrev number : PInst → ℕ
 number inst = inst.id.0
-
-chosen : (P : PInst → Type 0) (b : Bool) (y x : PInst) → (b ≡ true → P y) → P x → P (cond b y x)
-chosen P true y x here stays = here refl
-chosen P false y x here stays = stays
 
 -- the instance of an id is changed, and stays at its place and of its master
 module _ (i : InstId) (c : PInst → PInst) where
@@ -59,13 +49,13 @@ module _ (i : InstId) (c : PInst → PInst) where
   at_inst inst = cond (inst.id.0 == i.0) (c inst) inst
 
   pub inst-keeps : {Y : Type 0} (part : PInst → Y) → ((x : PInst) → part (c x) ≡ part x) → (x : PInst) → part (at_inst x) ≡ part x
-  inst-keeps part same x = chosen (λ y. part y ≡ part x) (x.id.0 == i.0) (c x) x (λ here. same x) refl
+  inst-keeps part same x = chosen_by (λ y. part y ≡ part x) (x.id.0 == i.0) (c x) x (λ here. same x) refl
 
   pub each-inst : (P : PInst → PInst → Type 0) (m : PModule) (x : PInst) → AllPairs (λ (a b : PInst). a.id.0 < b.id.0) m.insts → inst_of m i ≡ Some x → P (c x) x
       → All (λ (y : PInst). P y y) m.insts → All (λ (y : PInst). P (at_inst y) y) m.insts
   each-inst P m x rise found here rest k d within =
       let y : PInst = get_or m.insts k d in
-      chosen (λ z. P z y) (y.id.0 == i.0) (c y) y
+      chosen_by (λ z. P z y) (y.id.0 == i.0) (c y) y
       (λ at.
       let same_number : y.id.0 ≡ i.0 = grind (arith, nat_tests) in
       let make : ℕ → InstId = λ n. record { 0 = n } in

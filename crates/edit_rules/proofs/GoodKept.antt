@@ -1,5 +1,5 @@
 -- Edits of one module that keep its ports: what a good table asks of the table after such an edit.
-use Rattle.std.proofs.Common.{◌≡◌, ◌≤◌, true, false, List, map, get_or, Some, All, IsTrue, bytes_eq, refl, sym, ◌∙◌, subst, arith}
+use Rattle.std.proofs.Common.{◌≡◌, ℕ, Bool, ◌≤◌, true, false, List, map, get_or, Some, All, IsTrue, bytes_eq, refl, sym, ◌∙◌, subst, arith}
 use Rattle.std.specs.List.{IsDistinct}
 use Rattle.std.proofs.lemmas.Bool.{true≢false}
 use Rattle.std.proofs.lemmas.List.Elements.{All-weaker}
@@ -45,6 +45,24 @@ insts_kept M N m n masters wide insts all =
 -- a module that is no leaf needn't be a cell
 pub no_cell : (m n : PModule) → m.leaf ≡ false → n.leaf ≡ m.leaf → IsTrue n.leaf → IsCell n
 no_cell m n inner same leaf = absurd (true≢false (sym leaf ∙ same ∙ inner))
+
+-- a module is sound by what it holds, under whichever id and name, locked or not
+pub dressed_sound : (M N : Plain) (m : PModule) (id : ModId) (name : List ℕ) (locked : Bool) → KeepsMasters M N → m.leaf ≡ false → IsSoundModule M m
+    → IsSoundModule N (record m { id = id; name = name; locked = locked })
+dressed_sound M N m id name locked masters inner s =
+    let n : PModule = record m { id = id; name = name; locked = locked } in
+    record {
+      names = s.names;
+      nets_rise = s.nets_rise;
+      nets_below = s.nets_below;
+      ranges = s.ranges;
+      ports_there = s.ports_there;
+      ports_differ = s.ports_differ;
+      insts_rise = s.insts_rise;
+      insts_below = s.insts_below;
+      masters = insts_kept M N m n masters (λ net. omega arith) m.insts s.masters;
+      cell = no_cell m n inner refl;
+    }
 
 module _ (S : State) (id : ModId) (f : PModule → PModule) (ids : (m : PModule) → (f m).id ≡ m.id) (o : Opened S id) (good : IsGoodState S) where
   holder_own : IsOwn S.plain o.holder

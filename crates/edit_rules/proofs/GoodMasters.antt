@@ -1,7 +1,7 @@
 -- A new instance, another cell as master and a copy of a master keep a good state good.
-use Rattle.std.proofs.Common.{◌≡◌, ◌≢◌, ℕ, ◌+◌, ◌==◌, ◌<◌, ◌≤◌, ◌⊎◌, inl, inr, ⊎_elim, ◌&&◌, nat_lt, Bool, true, false, List, [], ◌∷◌, ◌++◌, map, zip, length, get_or, Option, Some, None, option_map, MatchOption, All, bytes_eq, refl, sym, ap, ◌∙◌, subst, arith}
+use Rattle.std.proofs.Common.{◌≡◌, ◌≢◌, ℕ, ◌+◌, ◌==◌, ◌<◌, ◌≤◌, ◌⊎◌, inl, inr, ⊎_elim, nat_lt, true, false, List, [], ◌∷◌, ◌++◌, map, zip, length, get_or, Option, Some, None, option_map, MatchOption, All, bytes_eq, refl, sym, ap, ◌∙◌, subst, arith}
 use Rattle.std.specs.List.{IsDistinct, list_all}
-use Rattle.std.proofs.lemmas.Bool.{true≢false, false≢true, or_parts}
+use Rattle.std.proofs.lemmas.Bool.{and_parts, true≢false, false≢true, or_parts}
 use Rattle.std.proofs.lemmas.Bool.Decides.{nat_tests}
 use Rattle.std.proofs.lemmas.List.Elements.{All-weaker, All-push, All-head, All-tail}
 use Rattle.std.proofs.lemmas.List.Quantifiers.{all_pairs_push}
@@ -36,16 +36,10 @@ use Rattle.edit_rules.proofs.GoodTables.{SamePorts, KeepsMasters, master_kept, l
 use Rattle.edit_rules.proofs.GoodChecks.{Passes, first-passes, Opened, common-passes, there, not-false}
 use Rattle.edit_rules.proofs.GoodStates.{stays}
 use Rattle.edit_rules.proofs.GoodNames as names
-use Rattle.edit_rules.proofs.GoodNames.{NamesApart}
+use Rattle.edit_rules.proofs.GoodNames.{net_name, inst_name, NamesApart}
 use Rattle.edit_rules.proofs.GoodKept.{insts_kept, keeps_wide, no_cell, holder-sound, holder-names, names-stay, masters-changed, changed-good}
 use Rattle.edit_rules.proofs.GoodInsts.{at_inst, inst-keeps, each-inst, inst-table, inst-there}
 use Rattle.edit_rules.proofs.GoodNets.{at_most, few-bits}
-
-abbrev net_name : PNet → List ℕ
-net_name net = net.name
-
-abbrev inst_name : PInst → List ℕ
-inst_name inst = inst.name
 
 -- CreateInst
 
@@ -120,16 +114,12 @@ create_inst-good S id name master good p =
 
 -- Resize
 
-both : (a b : Bool) → (a && b) ≡ true → (a ≡ true) × (b ≡ true)
-both true b e = (refl, e)
-both false b e = absurd (false≢true e)
-
 same-width : (a b : Option Range) → same_range a b ≡ true → width a ≡ width b
 same-width None None e = refl
 same-width None (Some b) e = absurd (false≢true e)
 same-width (Some a) None e = absurd (false≢true e)
 same-width (Some a) (Some b) e =
-    let parts = both (a.left == b.left) (a.right == b.right) e in
+    let parts = and_parts (a.left == b.left) (a.right == b.right) e in
     let left : a.left ≡ b.left = let is = parts.0 in grind (arith, nat_tests) in
     let right : a.right ≡ b.right = let is = parts.1 in grind (arith, nat_tests) in
     rw (left, right) refl
@@ -138,7 +128,7 @@ net-width : (a b : Option PNet) → same_net a b ≡ true → width_of a ≡ wid
 net-width None None e = refl
 net-width None (Some b) e = absurd (false≢true e)
 net-width (Some a) None e = absurd (false≢true e)
-net-width (Some a) (Some b) e = same-width a.range b.range (both (bytes_eq a.name b.name) (same_range a.range b.range) e).1
+net-width (Some a) (Some b) e = same-width a.range b.range (and_parts (bytes_eq a.name b.name) (same_range a.range b.range) e).1
 
 -- what fits ports fits ports that are alike
 fits-alike : (m a b : PModule) (p q : PPort) (conn : Conn) → width_of (net_of a p.net) ≡ width_of (net_of b q.net) → FitsPort m a p conn → FitsPort m b q conn
@@ -155,14 +145,14 @@ fit-alike m a b [] (q ∷ qs) conns many alike fits = absurd (omega (arith, many
 fit-alike m a b (p ∷ ps) [] conns many alike fits = absurd (omega (arith, many))
 fit-alike m a b (p ∷ ps) (q ∷ qs) [] many alike fits = absurd fits
 fit-alike m a b (p ∷ ps) (q ∷ qs) (conn ∷ conns) many alike fits =
-    let parts = both (same_port a b p q) (list_all (λ (x : PPort × PPort). same_port a b x.0 x.1) (zip ps qs)) alike in
-    let nets : same_net (net_of a p.net) (net_of b q.net) ≡ true = (both (same_dir p.dir q.dir) (same_net (net_of a p.net) (net_of b q.net)) parts.0).1 in
+    let parts = and_parts (same_port a b p q) (list_all (λ (x : PPort × PPort). same_port a b x.0 x.1) (zip ps qs)) alike in
+    let nets : same_net (net_of a p.net) (net_of b q.net) ≡ true = (and_parts (same_dir p.dir q.dir) (same_net (net_of a p.net) (net_of b q.net)) parts.0).1 in
     (fits-alike m a b p q conn (net-width (net_of a p.net) (net_of b q.net) nets) fits.0, fit-alike m a b ps qs conns (omega (arith, many)) parts.1 fits.1)
 
 -- an instance fits another master whose ports are alike
 has-alike : (M : Plain) (m : PModule) (x : PInst) (master : ModId) (a b : PModule) → module_of M x.master ≡ Some a → module_of M master ≡ Some b → same_ports (Some a) (Some b) ≡ true → HasMaster M m x → HasMaster M m (record x { master = master })
 has-alike M m x master a b old new alike has =
-    let parts = both (length a.ports == length b.ports) (list_all (λ (y : PPort × PPort). same_port a b y.0 y.1) (zip a.ports b.ports)) alike in
+    let parts = and_parts (length a.ports == length b.ports) (list_all (λ (y : PPort × PPort). same_port a b y.0 y.1) (zip a.ports b.ports)) alike in
     let many : length a.ports ≡ length b.ports = let is = parts.0 in grind (arith, nat_tests) in
     let Fits : Option PModule → Type 0 = λ o. MatchOption o ⊥ (λ y. FitPorts m y y.ports x.conns) in
     subst Fits (sym new) (fit-alike m a b a.ports b.ports x.conns many parts.1 (subst Fits old has))
@@ -195,7 +185,7 @@ resize-good S id i master good p =
     let f : PModule → PModule = with_insts (at_inst i change) in
     let N : Plain = with_master M id i master in
     let s = holder-sound S id f (λ y. refl) o good in
-    let leaves = both (is_leaf (master_of M (inst_in M id i))) (is_leaf (module_of M master)) (not-false _ e.0) in
+    let leaves = and_parts (is_leaf (master_of M (inst_in M id i))) (is_leaf (module_of M master)) (not-false _ e.0) in
     let new_leaf : new.0.leaf ≡ true = sym (ap is_leaf new.1) ∙ leaves.1 in
     let old_is : master_of M (inst_in M id i) ≡ module_of M x.0.master = ap (master_of M) x.2 in
     let old = old-there (master_of M (inst_in M id i)) leaves.0 in

@@ -8,6 +8,8 @@ use Rattle.std.proofs.lemmas.List.Kept.{AllPairs-cons}
 use Rattle.std.proofs.lemmas.List.Quantifiers.{all_pairs_push}
 use Rattle.std.proofs.lemmas.Map.Made.{IsDistinct-from_AllPairs, AllPairs-from_IsDistinct}
 use Rattle.std.proofs.lemmas.Slice.Eq.{bytes_eq-Decides}
+use Rattle.emh_base.specs.declared.plain.PNet.{PNet}
+use Rattle.emh_base.specs.declared.plain.PInst.{PInst}
 
 pub pairs-head : {X : Type 0} (R : X → X → Type 0) (x : X) (xs : List X) → AllPairs R (x ∷ xs) → All (R x) xs
 pairs-head R x xs h = λ k d lt. h zero (suc k) d (omega arith) (omega arith)
@@ -117,6 +119,12 @@ pub apart-push : {X : Type 0} (name : X → List ℕ) (xs : List X) (x : X) → 
 apart-push name xs x differ others = all_pairs_push (λ a b. name a ≢ name b) xs x differ others
 
 -- The nets and instances of a module, by their names.
+
+abbrev pub net_name : PNet → List ℕ
+net_name net = net.name
+
+abbrev pub inst_name : PInst → List ℕ
+inst_name inst = inst.name
 
 pub record NamesApart {X Y : Type 0} (name : X → List ℕ) (called : Y → List ℕ) (xs : List X) (ys : List Y) : Type 0 where
   pub left : Apart name xs

@@ -6,9 +6,9 @@ use Rattle.std.proofs.lemmas.Bool.{or_parts, true≢false}
 use Rattle.std.proofs.lemmas.Bool.Decides.{nat_tests}
 use Rattle.std.proofs.lemmas.List.Elements.{All-weaker, All-filter, All-push, All-nil, All-cons}
 use Rattle.std.proofs.lemmas.List.Folds.{find-append}
+use Rattle.std.proofs.lemmas.List.Filters.{sum_by-filter_both}
 use Rattle.std.proofs.lemmas.List.Kept.{AllPairs-filter}
 use Rattle.std.proofs.lemmas.List.Quantifiers.{all_pairs_push}
-use Rattle.std.proofs.lemmas.List.Sums.{sum_by-cons}
 use Rattle.emh_base.specs.declared.ids.ModId.{ModId}
 use Rattle.emh_base.specs.declared.ids.NetId.{NetId}
 use Rattle.emh_base.specs.declared.plain.Range.{Range}
@@ -38,14 +38,8 @@ use Rattle.edit_rules.proofs.GoodTables.{SamePorts, KeepsConn, KeepsMasters, Sam
 use Rattle.edit_rules.proofs.GoodChecks.{Passes, first-passes, Opened, common-passes}
 use Rattle.edit_rules.proofs.GoodStates.{stays}
 use Rattle.edit_rules.proofs.GoodNames as names
-use Rattle.edit_rules.proofs.GoodNames.{NamesApart, Apart}
+use Rattle.edit_rules.proofs.GoodNames.{net_name, inst_name, NamesApart, Apart}
 use Rattle.edit_rules.proofs.GoodKept.{insts_kept, no_cell, holder-sound, holder-names, names-stay, below-changed, within-changed, masters-changed, changed-good}
-
-abbrev net_name : PNet → List ℕ
-net_name net = net.name
-
-abbrev inst_name : PInst → List ℕ
-inst_name inst = inst.name
 
 -- DeleteNet
 
@@ -71,12 +65,7 @@ none-found p (x ∷ xs) none = let e = apart (p x) x (find p xs) none in All-con
     apart false x o none = (refl, none)
 
 pub sum-filter : {X : Type 0} (n : X → ℕ) (p : X → Bool) (xs : List X) → sum_by n (filter p xs) ≤ sum_by n xs
-sum-filter n p [] = omega arith
-sum-filter n p (x ∷ xs) = by (p x) (sum-filter n p xs)
-  where
-    by : (b : Bool) → sum_by n (filter p xs) ≤ sum_by n xs → sum_by n (cond b (x ∷ filter p xs) (filter p xs)) ≤ sum_by n (x ∷ xs)
-    by true low = omega (arith, sum_by-cons n x (filter p xs), sum_by-cons n x xs, low)
-    by false low = omega (arith, sum_by-cons n x xs, low)
+sum-filter n p xs = omega (arith, sum_by-filter_both p (λ x. not (p x)) (λ _. refl) n xs)
 
 -- no source names the net
 abbrev pub Unnamed : NetId → PInst → Type 0

@@ -36,28 +36,18 @@ use Rattle.edit_rules.specs.Good.{IsGoodState}
 use Rattle.edit_rules.specs.Apply.{after}
 use Rattle.edit_rules.proofs.OrderLemmas.{rises-map}
 use Rattle.edit_rules.proofs.GoodWalks.{AreBelow, IsBelow, short-below, size-below}
-use Rattle.edit_rules.proofs.GoodTables.{KeepsConn, fit_kept, master_kept, mapped, Same, IsOwn, lookup-mapped, cells-mapped, inner-mapped, below-mapped, within-mapped, sound-mapped, map-through, changed, changed-keeps, each-changed}
+use Rattle.edit_rules.proofs.GoodTables.{chosen_by, KeepsConn, fit_kept, master_kept, mapped, Same, IsOwn, lookup-mapped, cells-mapped, inner-mapped, below-mapped, within-mapped, sound-mapped, map-through, changed, changed-keeps, each-changed}
 use Rattle.edit_rules.proofs.GoodChecks.{Passes, first-passes, Opened, common-passes, there}
 use Rattle.edit_rules.proofs.GoodStates.{KeepsGood, stays}
 use Rattle.edit_rules.proofs.GoodNames as names
-use Rattle.edit_rules.proofs.GoodNames.{NamesApart}
+use Rattle.edit_rules.proofs.GoodNames.{net_name, inst_name, NamesApart}
 use Rattle.edit_rules.proofs.GoodKept.{keeps_wide, no_cell, holder-sound, holder-names}
 use Rattle.edit_rules.proofs.GoodInsts.{below-map}
 use Rattle.edit_rules.proofs.GoodNets.{sum-filter, Unnamed, unnamed, keeps-unnamed, other-net, net-same, net-wide, with_net-sound, few-bits}
 
-abbrev net_name : PNet → List ℕ
-net_name net = net.name
-
-abbrev inst_name : PInst → List ℕ
-inst_name inst = inst.name
-
 map-both : {X : Type 0} (f g : X → X) (xs : List X) → map g (map f xs) ≡ map (λ x. g (f x)) xs
 map-both f g [] = refl
 map-both f g (x ∷ xs) = ap (λ ys. g (f x) ∷ ys) (map-both f g xs)
-
-chosen : (P : PInst → Type 0) (b : Bool) (y x : PInst) → P y → P x → P (cond b y x)
-chosen P true y x here there = here
-chosen P false y x here there = there
 
 -- A module whose ports change, and each of its instances, whose connections do.
 module _ (S : State) (id : ModId) (f : PModule → PModule) (d : List Conn → List Conn) (ids : (m : PModule) → (f m).id ≡ m.id) (o : Opened S id) (good : IsGoodState S) where
@@ -81,7 +71,7 @@ module _ (S : State) (id : ModId) (f : PModule → PModule) (d : List Conn → L
       sym (ap to (map-both (changed id f) (with_insts joined) S.plain.modules))
 
   joined-keeps : {Y : Type 0} (part : PInst → Y) → ((x : PInst) → part (with_conns d x) ≡ part x) → (x : PInst) → part (joined x) ≡ part x
-  joined-keeps part same x = chosen (λ y. part y ≡ part x) (x.master.0 == id.0) (with_conns d x) x (same x) refl
+  joined-keeps part same x = chosen_by (λ y. part y ≡ part x) (x.master.0 == id.0) (with_conns d x) x (λ here. same x) refl
 
   g_ids : (m : PModule) → (joined_module m).id ≡ m.id
   g_ids m = changed-keeps (λ x. x.id) id f ids m

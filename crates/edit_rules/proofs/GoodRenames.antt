@@ -24,7 +24,7 @@ use Rattle.edit_rules.proofs.GoodChecks.{Passes, first-passes, Opened, opened, c
 use Rattle.edit_rules.proofs.GoodStates.{KeepsGood, stays}
 use Rattle.edit_rules.proofs.GoodNames as names
 use Rattle.edit_rules.proofs.GoodNames.{NamesApart, Apart}
-use Rattle.edit_rules.proofs.GoodKept.{insts_kept, no_cell, holder-sound, holder-names, names-stay, within-changed, masters-changed, changed-good}
+use Rattle.edit_rules.proofs.GoodKept.{dressed_sound, insts_kept, no_cell, holder-sound, holder-names, names-stay, within-changed, masters-changed, changed-good}
 
 -- Lock and Unlock
 
@@ -34,18 +34,7 @@ lock-table S id locked o good =
     let s = holder-sound S id f (λ m. refl) o good in
     let ports : SamePorts o.holder (f o.holder) = record { ports = refl; widths = λ k d within. refl } in
     changed-good S id f (λ m. refl) o good (λ m. refl) (names-stay S id f (λ m. refl) o good (λ m. refl)) ports
-    (record {
-      names = s.names;
-      nets_rise = s.nets_rise;
-      nets_below = s.nets_below;
-      ranges = s.ranges;
-      ports_there = s.ports_there;
-      ports_differ = s.ports_differ;
-      insts_rise = s.insts_rise;
-      insts_below = s.insts_below;
-      masters = insts_kept S.plain (with_lock S.plain id locked) o.holder (f o.holder) (masters-changed S id f (λ m. refl) o good ports) (λ net. omega arith) o.holder.insts s.masters;
-      cell = no_cell o.holder (f o.holder) o.inner refl;
-    })
+    (dressed_sound S.plain (with_lock S.plain id locked) o.holder o.holder.id o.holder.name locked (masters-changed S id f (λ m. refl) o good ports) o.inner s)
     (within-changed S id f (λ m. refl) o good (below-own o.holder.insts) (omega arith))
 
 pub lock-good : (S : State) (id : ModId) → IsGoodState S → Passes (lock_rules S id) → IsGoodState (after S (Lock id))
@@ -76,18 +65,7 @@ rename_module-good S id name good p =
     stays S (rename_module S.plain id name) good
     (changed-good S id f (λ m. refl) o good (λ m. refl)
     (names.distinct called _ (names.apart-renamed called (λ (m : PModule). m.id.0) id.0 name f (λ m. refl) S.plain.modules good.table.sound.rise others apart)) ports
-    (record {
-      names = s.names;
-      nets_rise = s.nets_rise;
-      nets_below = s.nets_below;
-      ranges = s.ranges;
-      ports_there = s.ports_there;
-      ports_differ = s.ports_differ;
-      insts_rise = s.insts_rise;
-      insts_below = s.insts_below;
-      masters = insts_kept S.plain (rename_module S.plain id name) o.holder (f o.holder) (masters-changed S id f (λ m. refl) o good ports) (λ net. omega arith) o.holder.insts s.masters;
-      cell = no_cell o.holder (f o.holder) o.inner refl;
-    })
+    (dressed_sound S.plain (rename_module S.plain id name) o.holder o.holder.id name o.holder.locked (masters-changed S id f (λ m. refl) o good ports) o.inner s)
     (within-changed S id f (λ m. refl) o good (below-own o.holder.insts) (omega arith)))
 
 -- RenameNet

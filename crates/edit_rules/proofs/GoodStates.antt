@@ -1,8 +1,8 @@
 -- A state after an edit is good where its table is, and the cells are as they were.
-use Rattle.std.proofs.Common.{◌≡◌, ℕ, Bool, is_eq, Ordering, Less, Equal, Greater, true, false, cond, ◌&&◌, List, Option, Some, None, is_some, IsSome, IsTrue, refl, sym, ap, ◌∙◌, subst}
+use Rattle.std.proofs.Common.{◌≡◌, ℕ, Bool, is_eq, Ordering, Less, Equal, Greater, true, false, cond, List, Option, Some, None, is_some, IsSome, IsTrue, refl, sym, ap, ◌∙◌, subst}
 use Rattle.std.specs.FinMap.{get, get-retain_keys, get-insert, get-remove, insert, remove}
 use Rattle.std.specs.Ordering.{eq_by_cmp}
-use Rattle.std.proofs.lemmas.Bool.{false≢true}
+use Rattle.std.proofs.lemmas.Bool.{and_parts, false≢true}
 use Rattle.emh_base.specs.Path.{path_cmp, path_total}
 use Rattle.emh_base.specs.Places.{PlacesByPath}
 use Rattle.emh_base.specs.declared.ids.ModId.{ModId}
@@ -40,17 +40,13 @@ kept-placed N top places path some =
     in
     passed (is_leaf_path N top path) (get places path) (sym (ap (λ (o : Option Placement). is_some o) is) ∙ some)
 
-left : (a b : Bool) → (a && b) ≡ true → a ≡ true
-left true b e = refl
-left false b e = absurd (false≢true e)
-
 module _ (M N : Plain) (top : ModId) (keeps : KeepsGood M N top) where
   buffer-kept : (id : ModId) → IsTrue (is_buffer (module_of M id)) → IsTrue (is_buffer (module_of N id))
   buffer-kept id is = by_cases (module_of M id) refl is
     where
       by_cases : (o : Option PModule) → module_of M id ≡ o → IsTrue (is_buffer o) → IsTrue (is_buffer (module_of N id))
       by_cases None e is = absurd (false≢true is)
-      by_cases (Some m) e is = ap is_buffer (keeps.cells id m e (left m.leaf (are_buffer_ports m m.ports) is)) ∙ is
+      by_cases (Some m) e is = ap is_buffer (keeps.cells id m e (and_parts m.leaf (are_buffer_ports m m.ports) is).0) ∙ is
 
   pub fanout-kept : (fanout : Fanout) → IsFanout M fanout → IsFanout N fanout
   fanout-kept fanout is = record { buffer = buffer-kept fanout.cell is.buffer; number = is.number }

@@ -170,7 +170,8 @@ module _ (M : Plain) (g : PModule → PModule) (ids : (m : PModule) → (g m).id
 abbrev pub changed : ModId → (PModule → PModule) → PModule → PModule
 changed id f m = cond (m.id.0 == id.0) (f m) m
 
-chosen_by : (P : PModule → Type 0) (b : Bool) (y x : PModule) → (b ≡ true → P y) → P x → P (cond b y x)
+-- a choice has what both sides have
+pub chosen_by : {X : Type 0} (P : X → Type 0) (b : Bool) (y x : X) → (b ≡ true → P y) → P x → P (cond b y x)
 chosen_by P true y x here there = here refl
 chosen_by P false y x here there = there
 
