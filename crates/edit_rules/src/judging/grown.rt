@@ -4,9 +4,10 @@ ghost use Rattle.flatten_rules.specs.Sound.{IsSound};
 ghost use Rattle.edit_rules.specs.Good.{IsGoodState};
 ghost use Rattle.edit_rules.specs.Insts.{create_inst};
 ghost use Rattle.edit_rules.specs.Limits.{is_too_deep, has_too_many_occurrences, has_too_many_bits, leads_to};
-ghost use Rattle.edit_rules.specs.Readers.{is_module};
+ghost use Rattle.edit_rules.specs.Outline.{outline};
 
-use super::outline::{grown_outline, outline};
+use super::outline::outline;
+use crate::create::with_inst_alone;
 use crate::depth::is_too_deep;
 use crate::facts::Facts;
 use crate::limits::{has_too_many_bits, has_too_many_occurrences, leads_to};
@@ -23,7 +24,7 @@ pub struct Above {
     pub too_many_bits: bool,
 }
 
-/// Looks at the limits with an instance more, by a pass over the modules that are read, or two where the master is no leaf.
+/// Looks at the limits with an instance more, by one pass over the modules that are read.
 pub fn limits_with<F: Facts>(
     alloc: Global,
     facts: &F,
@@ -31,8 +32,7 @@ pub fn limits_with<F: Facts>(
     name: &Name,
     master: ModId,
 ) -> Result<Above, NoMemory>
-    requires good { IsGoodState (F.state facts.now) }
-    requires live { IsTrue (is_module (F.state facts.now).plain master) }
+    requires { IsGoodState (F.state facts.now) }
     ensures recursive { IfOk result (λ above. above.recursive ≡ leads_to (F.state facts.now).plain master id) }
     ensures depth { IfOk result (λ above. above.too_deep ≡ is_too_deep (create_inst (F.state facts.now).plain id name.now master)) }
     ensures occurrences { IfOk result (λ above. above.too_many_occurrences
@@ -40,34 +40,15 @@ pub fn limits_with<F: Facts>(
     ensures bits { IfOk result (λ above. above.too_many_bits
         ≡ has_too_many_bits (create_inst (F.state facts.now).plain id name.now master) (F.state facts.now).top) }
 {
-    let recursive = leads_to_by(alloc, facts, name, master, id)?;
-    let made = grown_outline(alloc, facts, name, id, master)?;
-    let top = top_of(facts, &made);
+    let plain = outline(alloc, facts, name)?;
+    let made = with_inst_alone(&plain, id, name, master)?;
+    let top = top_of(facts, &plain);
     Ok(Above {
-        recursive,
+        recursive: leads_to(&plain, master, id)?,
         too_deep: is_too_deep(&made)?,
         too_many_occurrences: has_too_many_occurrences(&made, top)?,
         too_many_bits: has_too_many_bits(&made, top)?,
     })
-}
-
-/// Whether a walk of instances down from a module leads to another one, or they are the same. A leaf leads to itself alone.
-fn leads_to_by<F: Facts>(
-    alloc: Global,
-    facts: &F,
-    name: &Name,
-    from: ModId,
-    to: ModId,
-) -> Result<bool, NoMemory>
-    requires sound { IsSound (F.state facts.now).plain }
-    requires live { IsTrue (is_module (F.state facts.now).plain from) }
-    ensures { IfOk result (λ leads. leads ≡ leads_to (F.state facts.now).plain from to) }
-{
-    if facts.is_leaf(from) {
-        return Ok(from.0 == to.0);
-    }
-    let plain = outline(alloc, facts, name)?;
-    Ok(leads_to(&plain, from, to)?)
 }
 
 /// The top, by a look at each module.
