@@ -1,10 +1,11 @@
 -- A walk through items by their ids makes the list of all of them.
-use Rattle.std.proofs.Common.{◌≡◌, ℕ, ◌+◌, ◌<◌, ◌≤◌, ◌==◌, nat_lt, nat_le, Bool, true, false, List, [], ◌∷◌, ◌++◌, length, map, take, get_or, slice_get, find, is_some, Option, Some, None, option_map, option_and_then, IsTrue, AllPairs, refl, sym, ap, ap₂, subst, ◌∙◌, arith, ⊎_elim, add-one}
+use Rattle.std.proofs.Common.{◌≡◌, ℕ, suc, ◌||◌, ◌+◌, ◌<◌, ◌≤◌, ◌==◌, nat_lt, nat_le, Bool, true, false, cond, List, [], ◌∷◌, ◌++◌, length, map, take, get_or, slice_get, find, is_some, Option, Some, None, option_map, option_and_then, IsTrue, AllPairs, refl, sym, ap, ap₂, subst, ◌∙◌, arith, ⊎_elim}
 use Rattle.std.specs.List.Sorted.{IsPartitionPoint}
 use Rattle.std.proofs.lemmas.Bool.{cases_lt}
 use Rattle.std.proofs.lemmas.Bool.Decides.{nat_tests}
 use Rattle.std.proofs.lemmas.List.{length_push, take_more, take_all, map-append}
-use Rattle.std.proofs.lemmas.Option.{slice_get_within, get_or_from_slice_get, slice_get_past}
+use Rattle.std.proofs.lemmas.Simd.{map-map}
+use Rattle.std.proofs.lemmas.Option.{slice_get_within, get_or_from_slice_get}
 use Rattle.emh_base.specs.declared.ids.ModId.{ModId}
 use Rattle.emh_base.specs.declared.ids.InstId.{InstId}
 use Rattle.emh_base.specs.declared.ids.NetId.{NetId}
@@ -19,7 +20,12 @@ use Rattle.flatten_rules.specs.Sound.{IsSound}
 use Rattle.flatten_rules.proofs.Walks.{find-own, id-of_found}
 use Rattle.flatten_rules.proofs.Following.{get-none_past}
 use Rattle.edit_rules.specs.Readers.{is_module, is_inst, is_net, inst_in, net_in, nets_of, master_id}
-use Rattle.edit_rules.specs.Outline.{bare_inst, bare_net, bare}
+use Rattle.edit_rules.specs.Outline.{bare_inst, bare_net, bare, outline, grown, grown_outline}
+use Rattle.edit_rules.specs.Changes.{with_module}
+use Rattle.edit_rules.specs.Insts.{with_inst_alone}
+use Rattle.edit_rules.specs.Limits.{leads_to}
+use Rattle.flatten_rules.specs.Unfolding.{Occurrence, unfolded}
+use Rattle.std.specs.List.{flat_map, list_any}
 use Rattle.edit_rules.proofs.FactsLemmas.{first-past, first-of-all}
 use Rattle.edit_rules.proofs.TableLemmas.{sound-found}
 
@@ -190,7 +196,7 @@ module _ (M : Plain) (sound : IsSound M) where
         ∙ ap (option_map (λ (i : PNet). i.id)) (past ∙ ap (slice_get xs) (sym longer))
 
   -- and the next module
-  module _ (name : List ℕ) (made : List PModule) (id : ModId) (walked : Walked (bare name) M.modules made)
+  module _ (f : PModule → PModule) (made : List PModule) (id : ModId) (walked : Walked f M.modules made)
       (next : option_map (λ (m : PModule). m.id) (slice_get M.modules (length made)) ≡ Some id) where
     found : (m : PModule) × (slice_get M.modules (length made) ≡ Some m) × (m.id ≡ id)
     found = some-of (λ (m : PModule). m.id) (slice_get M.modules (length made)) id next
@@ -204,13 +210,13 @@ module _ (M : Plain) (sound : IsSound M) where
     pub module-inside : length made < length M.modules
     module-inside = slice_get_within M.modules (length made) found.0 found.1
 
-    pub module-walked : (y : PModule) (pushed : List PModule) → Some y ≡ option_map (bare name) (module_of M id) → pushed ≡ made ++ y ∷ []
-        → Walked (bare name) M.modules pushed
+    pub module-walked : (y : PModule) (pushed : List PModule) → Some y ≡ option_map f (module_of M id) → pushed ≡ made ++ y ∷ []
+        → Walked f M.modules pushed
     module-walked y pushed is more =
-        let some : Some y ≡ Some (bare name found.0) = is ∙ ap (option_map (bare name)) found-in in
-        let same : y ≡ bare name found.0 = cc in
-        let All : List PModule → Type 0 = Walked (bare name) M.modules in
-        subst All (sym more) (walked-more (bare name) M.modules made found.0 y walked found.1 same)
+        let some : Some y ≡ Some (f found.0) = is ∙ ap (option_map f) found-in in
+        let same : y ≡ f found.0 = cc in
+        let All : List PModule → Type 0 = Walked f M.modules in
+        subst All (sym more) (walked-more f M.modules made found.0 y walked found.1 same)
 
     pub module-next : (y : PModule) (pushed : List PModule) → pushed ≡ made ++ y ∷ []
         → option_map (λ (m : PModule). m.id) (find (λ (m : PModule). nat_lt id.0 m.id.0) M.modules) ≡ option_map (λ (m : PModule). m.id) (slice_get M.modules (length pushed))
@@ -234,3 +240,57 @@ pub bare-made : (M : Plain) (id : ModId) (name : List ℕ) (leaf : Bool) (nets :
     → leaf ≡ is_leaf (module_of M id) → nets ≡ map (bare_net name) (nets_of (module_of M id)) → insts ≡ map (bare_inst name) (insts_of (module_of M id))
     → Some (bare_module id name leaf nets insts) ≡ option_map (bare name) (module_of M id)
 bare-made M id name leaf nets insts live leaves wires all = rw (leaves, wires, all) (bare-of M id name (module_of M id) refl live)
+
+-- a module of the outline that has an instance more, or isn't the one that has
+pub grown-made : (M : Plain) (here id master : ModId) (name : List ℕ) (y : PModule) → Some y ≡ option_map (bare name) (module_of M here) → (here.0 == id.0) ≡ true
+    → Some (with_inst_alone name master [] y) ≡ option_map (grown name id master) (module_of M here)
+grown-made M here id master name y is same = grown-one (module_of M here) refl is
+  where
+    grown-one : (found : Option PModule) → found ≡ module_of M here → Some y ≡ option_map (bare name) found → Some (with_inst_alone name master [] y) ≡ option_map (grown name id master) found
+    grown-one None at is = let never : Some y ≡ None = is in absurd (cc)
+    grown-one (Some h) at is =
+        let it : y ≡ bare name h = cc in
+        let own : (h.id.0 == id.0) ≡ true = ap (λ (m : ModId). m.0 == id.0) (id-of_found M here h (sym at)) ∙ same in
+        rw own (ap (λ m. Some (with_inst_alone name master [] m)) it)
+
+pub bare-kept : (M : Plain) (here id master : ModId) (name : List ℕ) (y : PModule) → Some y ≡ option_map (bare name) (module_of M here) → (here.0 == id.0) ≡ false
+    → Some y ≡ option_map (grown name id master) (module_of M here)
+bare-kept M here id master name y is other = kept-one (module_of M here) refl is
+  where
+    kept-one : (found : Option PModule) → found ≡ module_of M here → Some y ≡ option_map (bare name) found → Some y ≡ option_map (grown name id master) found
+    kept-one None at is = let never : Some y ≡ None = is in absurd (cc)
+    kept-one (Some h) at is =
+        let own : (h.id.0 == id.0) ≡ false = ap (λ (m : ModId). m.0 == id.0) (id-of_found M here h (sym at)) ∙ other in
+        rw own is
+
+or-false : (b : Bool) → (b || false) ≡ b
+or-false true = refl
+or-false false = refl
+
+-- a leaf leads to itself alone
+leaf-alone : (M : Plain) (m : ModId) (levels : ℕ) → insts_of (module_of M m) ≡ [] → unfolded M [] m (suc levels) ≡ ([], m) ∷ []
+unfolding unfolded
+leaf-alone M m levels none = ap (λ insts. ([], m) ∷ flat_map (λ inst. unfolded M ([] ++ inst.id ∷ []) inst.master levels) insts) none
+
+leaf-empty : (M : Plain) (sound : IsSound M) (m : ModId) (found : Option PModule) → found ≡ module_of M m → is_leaf found ≡ true → insts_of found ≡ []
+leaf-empty M sound m None at leaf = refl
+leaf-empty M sound m (Some h) at leaf = ((sound-found M m h sound at).cell leaf).insts
+
+pub leaf-leads : (M : Plain) (m id : ModId) → IsSound M → is_leaf (module_of M m) ≡ true → leads_to M m id ≡ (m.0 == id.0)
+leaf-leads M m id sound leaf =
+    ap (list_any (λ (o : Occurrence). o.1.0 == id.0)) (leaf-alone M m 256 (leaf-empty M sound m (module_of M m) refl leaf))
+    ∙ or-false (m.0 == id.0)
+
+-- an outline that is grown is one that is changed in that module
+pub grown-changed : (M : Plain) (name : List ℕ) (id master : ModId) → grown_outline name id master M ≡ with_module (outline name M) id (with_inst_alone name master [])
+grown-changed M name id master =
+    let made : List PModule → Plain = λ modules. record { modules = modules; next_module = 0 } in
+    ap made (sym (map-map (λ (m : PModule). cond (m.id.0 == id.0) (with_inst_alone name master [] m) m) (bare name) M.modules))
+
+grown-id : (name : List ℕ) (master : ModId) (m : PModule) (one : Bool) → (cond one (with_inst_alone name master [] (bare name m)) (bare name m)).id ≡ m.id
+grown-id name master m true = refl
+grown-id name master m false = refl
+
+pub grown-ids : (name : List ℕ) (id master : ModId) (xs : List PModule) → map (λ (m : PModule). m.id) (map (grown name id master) xs) ≡ map (λ (m : PModule). m.id) xs
+grown-ids name id master [] = refl
+grown-ids name id master (x ∷ xs) = ap₂ (λ (i : ModId) is. i ∷ is) (grown-id name master x (x.id.0 == id.0)) (grown-ids name id master xs)

@@ -1,9 +1,9 @@
 -- What soundness says of what is read.
-use Rattle.std.proofs.Common.{◌≡◌, ◌≢◌, ℕ, zero, suc, ◌<◌, ◌≤◌, ◌==◌, ◌||◌, nat_eq, not, Bool, true, false, cond, List, [], ◌∷◌, length, map, get_or, slice_get, find, position, is_some, Option, Some, None, option_map, option_and_then, IsTrue, IsSome, MatchOption, All, AllPairs, refl, sym, ap, subst, ◌∙◌, arith}
+use Rattle.std.proofs.Common.{◌≡◌, ◌≢◌, ℕ, ◌<◌, ◌≤◌, ◌==◌, ◌||◌, nat_eq, not, Bool, true, false, cond, List, [], ◌∷◌, length, map, get_or, slice_get, find, position, is_some, Option, Some, None, option_map, option_and_then, IsTrue, IsSome, MatchOption, All, AllPairs, refl, sym, ap, subst, ◌∙◌, arith}
 use Rattle.std.specs.List.{list_any, position_or_len}
 use Rattle.std.proofs.lemmas.Bool.Decides.{nat_tests, Decides-eqb}
 use Rattle.std.proofs.lemmas.List.{get_or-map, length-map}
-use Rattle.std.proofs.lemmas.List.Elements.{All-get_or, All-head, All-tail, All-cons}
+use Rattle.std.proofs.lemmas.List.Elements.{All-head, All-tail, All-cons}
 use Rattle.std.proofs.lemmas.List.Folds.{find_at}
 use Rattle.std.proofs.lemmas.List.Sums.{position_or_len_is}
 use Rattle.std.proofs.lemmas.Map.Made.{IsDistinct-from_AllPairs}
@@ -29,7 +29,7 @@ use Rattle.flatten_rules.proofs.Sound.{All-find, master-there}
 use Rattle.flatten_rules.proofs.Checking.{fit-length}
 use Rattle.flatten_rules.proofs.Walks.{find-passes}
 use Rattle.flatten_rules.proofs.Places.{item-there, position-within, find-from_none}
-use Rattle.edit_rules.specs.Readers.{is_module, is_inst, is_port, net_in, port_in, inst_in, master_id, master_of, conn_of, conn_at, is_connected, next_net_of}
+use Rattle.edit_rules.specs.Readers.{is_module, is_inst, is_port, net_in, port_in, inst_in, master_id, conn_of, conn_at, is_connected, next_net_of}
 use Rattle.edit_rules.specs.Facts.{is_open_conn}
 use Rattle.edit_rules.proofs.TableLemmas.{sound-found}
 

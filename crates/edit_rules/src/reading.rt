@@ -76,12 +76,20 @@ fn first_past<T: Numbered>(items: &[T], last: Option<u32>) -> Option<&T>
     }
 }
 
+/// The place behind the items whose numbers are at most another. Where numbers have no gaps, that number is the place
+/// of its item.
 fn place_past<T: Numbered>(items: &[T], last: u32) -> usize
     requires { AllPairs (λ a b. T.number_of a < T.number_of b) items.now }
     ensures within { result ≤ length items.now }
     ensures parts { IsPartitionPoint (λ item. nat_le (T.number_of item) last ≡ true)
         (λ item. nat_le (T.number_of item) last ≡ false) items.now result }
 {
+    let guess = last as usize;
+    if let Some(item) = items.get(guess) {
+        if item.number() == last {
+            return guess + 1;
+        }
+    }
     items.partition_point(|item| item.number() <= last)
 }
 

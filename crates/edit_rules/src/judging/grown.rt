@@ -4,10 +4,9 @@ ghost use Rattle.flatten_rules.specs.Sound.{IsSound};
 ghost use Rattle.edit_rules.specs.Good.{IsGoodState};
 ghost use Rattle.edit_rules.specs.Insts.{create_inst};
 ghost use Rattle.edit_rules.specs.Limits.{is_too_deep, has_too_many_occurrences, has_too_many_bits, leads_to};
-ghost use Rattle.edit_rules.specs.Outline.{outline};
+ghost use Rattle.edit_rules.specs.Readers.{is_module};
 
-use super::outline::outline;
-use crate::create::with_inst_alone;
+use super::outline::{grown_outline, outline};
 use crate::depth::is_too_deep;
 use crate::facts::Facts;
 use crate::limits::{has_too_many_bits, has_too_many_occurrences, leads_to};
@@ -24,7 +23,7 @@ pub struct Above {
     pub too_many_bits: bool,
 }
 
-/// Looks at the limits with an instance more, by one pass over the modules that are read.
+/// Looks at the limits with an instance more, by a pass over the modules that are read, or two where the master is no leaf.
 pub fn limits_with<F: Facts>(
     alloc: Global,
     facts: &F,
@@ -32,7 +31,8 @@ pub fn limits_with<F: Facts>(
     name: &Name,
     master: ModId,
 ) -> Result<Above, NoMemory>
-    requires { IsGoodState (F.state facts.now) }
+    requires good { IsGoodState (F.state facts.now) }
+    requires live { IsTrue (is_module (F.state facts.now).plain master) }
     ensures recursive { IfOk result (λ above. above.recursive ≡ leads_to (F.state facts.now).plain master id) }
     ensures depth { IfOk result (λ above. above.too_deep ≡ is_too_deep (create_inst (F.state facts.now).plain id name.now master)) }
     ensures occurrences { IfOk result (λ above. above.too_many_occurrences
@@ -40,15 +40,34 @@ pub fn limits_with<F: Facts>(
     ensures bits { IfOk result (λ above. above.too_many_bits
         ≡ has_too_many_bits (create_inst (F.state facts.now).plain id name.now master) (F.state facts.now).top) }
 {
-    let plain = outline(alloc, facts, name)?;
-    let made = with_inst_alone(&plain, id, name, master)?;
-    let top = top_of(facts, &plain);
+    let recursive = leads_to_by(alloc, facts, name, master, id)?;
+    let made = grown_outline(alloc, facts, name, id, master)?;
+    let top = top_of(facts, &made);
     Ok(Above {
-        recursive: leads_to(&plain, master, id)?,
+        recursive,
         too_deep: is_too_deep(&made)?,
         too_many_occurrences: has_too_many_occurrences(&made, top)?,
         too_many_bits: has_too_many_bits(&made, top)?,
     })
+}
+
+/// Whether a walk of instances down from a module leads to another one, or they are the same. A leaf leads to itself alone.
+fn leads_to_by<F: Facts>(
+    alloc: Global,
+    facts: &F,
+    name: &Name,
+    from: ModId,
+    to: ModId,
+) -> Result<bool, NoMemory>
+    requires sound { IsSound (F.state facts.now).plain }
+    requires live { IsTrue (is_module (F.state facts.now).plain from) }
+    ensures { IfOk result (λ leads. leads ≡ leads_to (F.state facts.now).plain from to) }
+{
+    if facts.is_leaf(from) {
+        return Ok(from.0 == to.0);
+    }
+    let plain = outline(alloc, facts, name)?;
+    Ok(leads_to(&plain, from, to)?)
 }
 
 /// The top, by a look at each module.

@@ -1,12 +1,13 @@
-ghost use Rattle.std.specs.Prelude.{◌≡◌, Some, map, option_map, IsTrue, IfOk};
+ghost use Rattle.std.specs.Prelude.{◌≡◌, [], Some, map, option_map, IsTrue, IfOk};
 ghost use Rattle.flatten_rules.specs.Lookup.{module_of, insts_of};
 ghost use Rattle.flatten_rules.specs.Sound.{IsSound};
 ghost use Rattle.edit_rules.specs.Readers.{is_module, nets_of};
-ghost use Rattle.edit_rules.specs.Outline.{bare_inst, bare_net, bare, outline};
+ghost use Rattle.edit_rules.specs.Insts.{with_inst_alone};
+ghost use Rattle.edit_rules.specs.Outline.{bare_inst, bare_net, bare, outline, grown, grown_outline};
 
 use super::common::master_of;
 use crate::facts::Facts;
-use emh_base::{List, ModId, Name, NoMemory, PInst, PModule, PNet, Plain, TryCopy};
+use emh_base::{InstId, List, ModId, Name, NoMemory, PInst, PModule, PNet, Plain, TryCopy};
 use std::alloc::Global;
 
 /// The outline of the table that is read: its modules with their nets and the masters of their instances, under one name.
@@ -24,6 +25,67 @@ pub fn outline<F: Facts>(alloc: Global, facts: &F, name: &Name) -> Result<Plain,
         modules,
         next_module: 0,
     })
+}
+
+/// The outline with an instance of a master more in a module.
+pub fn grown_outline<F: Facts>(
+    alloc: Global,
+    facts: &F,
+    name: &Name,
+    id: ModId,
+    master: ModId,
+) -> Result<Plain, NoMemory>
+    requires { IsSound (F.state facts.now).plain }
+    ensures { IfOk result (λ made. made ≡ grown_outline name.now id master (F.state facts.now).plain) }
+{
+    let mut modules = List::new(alloc);
+    let mut next = facts.module_after(None);
+    while let Some(here) = next {
+        modules.push(grown(alloc, facts, here, name, id, master)?)?;
+        next = facts.module_after(Some(here));
+    }
+    Ok(Plain {
+        modules,
+        next_module: 0,
+    })
+}
+
+/// A module of the outline, with an instance more where it is the one.
+fn grown<F: Facts>(
+    alloc: Global,
+    facts: &F,
+    here: ModId,
+    name: &Name,
+    id: ModId,
+    master: ModId,
+) -> Result<PModule, NoMemory>
+    requires sound { IsSound (F.state facts.now).plain }
+    requires live { IsTrue (is_module (F.state facts.now).plain here) }
+    ensures { IfOk result (λ made. Some made ≡ option_map (grown name.now id master) (module_of (F.state facts.now).plain here)) }
+{
+    let holder = bare(alloc, facts, here, name)?;
+    if here.0 == id.0 {
+        return Ok(with_inst_last(alloc, holder, name, master)?);
+    }
+    Ok(holder)
+}
+
+/// The module with an instance more; the counter isn't raised.
+fn with_inst_last(
+    alloc: Global,
+    mut holder: PModule,
+    name: &Name,
+    master: ModId,
+) -> Result<PModule, NoMemory>
+    ensures { IfOk result (λ made. made ≡ with_inst_alone name.now master [] holder) }
+{
+    holder.insts.push(PInst {
+        id: InstId(holder.next_inst),
+        name: name.copy()?,
+        master,
+        conns: List::new(alloc),
+    })?;
+    Ok(holder)
 }
 
 /// A module of the outline.

@@ -1,10 +1,7 @@
-use Rattle.std.proofs.Common.{◌-◌, ◌+◌, min, sum_by, take, sym, ap, ◌∙◌, arith}
-use Rattle.std.specs.Option.{option_copied}
+use Rattle.std.proofs.Common.{◌-◌, min, sum_by, sym, ap, ◌∙◌}
 use Rattle.std.proofs.lemmas.List.{take_all}
 use Rattle.emh_base.specs.declared.plain.PInst.{PInst}
-use Rattle.emh_base.specs.declared.plain.PModule.{PModule}
 use Rattle.flatten_rules.specs.Extent.{total}
-use Rattle.flatten_rules.proofs.Walks.{id-of_found}
 use Rattle.edit_rules.specs.Count.{weight_in, counted}
 use Rattle.edit_rules.proofs.CountLemmas.{counted-nowhere, counted-absent, counted-below}
 use Rattle.edit_rules.proofs.count.+below.Goals as goal

@@ -1,4 +1,4 @@
-use Rattle.std.proofs.Common.{ap, length, ◌∙◌, arith}
+use Rattle.std.proofs.Common.{ap, length, arith}
 use Rattle.emh_base.specs.declared.plain.PModule.{PModule}
 use Rattle.edit_rules.proofs.FactsLemmas.{length-below}
 use Rattle.edit_rules.proofs.reading.users.Goals as goal

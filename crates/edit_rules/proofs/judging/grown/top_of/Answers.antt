@@ -1,4 +1,4 @@
-use Rattle.std.proofs.Common.{List, get_or, ◌≡◌, length, map, ap, sym, ◌∙◌, arith}
+use Rattle.std.proofs.Common.{map, ap, ◌∙◌, arith}
 use Rattle.emh_base.specs.declared.plain.PModule.{PModule}
 use Rattle.edit_rules.proofs.TopLemmas.{listed-live, top-listed}
 use Rattle.edit_rules.proofs.judging.grown.top_of.Goals as goal

@@ -1,4 +1,4 @@
-use Rattle.std.proofs.Common.{ℕ, false, List, [], Some, ◌≡◌, ap, ◌∙◌}
+use Rattle.std.proofs.Common.{ℕ, false, List, Some, ap, ◌∙◌}
 use Rattle.emh_base.specs.declared.plain.PPort.{PPort}
 use Rattle.emh_base.specs.declared.plain.PModule.{PModule}
 use Rattle.edit_rules.proofs.OutlineLemmas.{bare-made}

@@ -1,11 +1,11 @@
-use Rattle.std.proofs.Common.{ℕ, List, [], ◌∷◌, ◌++◌, ◌≡◌, length, slice_get, option_map, sym, ap, ◌∙◌, subst, arith}
+use Rattle.std.proofs.Common.{ℕ, List, length, slice_get, sym, ap, ◌∙◌, arith}
 use Rattle.std.proofs.lemmas.List.{length_push}
 use Rattle.emh_base.specs.declared.ids.ModId.{ModId}
 use Rattle.emh_base.specs.declared.plain.Conn.{Conn}
 use Rattle.emh_base.specs.declared.plain.PInst.{PInst}
 use Rattle.flatten_rules.specs.Lookup.{module_of, insts_of}
 use Rattle.edit_rules.specs.Outline.{bare_inst}
-use Rattle.edit_rules.proofs.OutlineLemmas.{Walked, walked-none, walked-all, none-of, inst-is, inst-inside, inst-walked, inst-next, first-of}
+use Rattle.edit_rules.proofs.OutlineLemmas.{walked-none, walked-all, none-of, inst-is, inst-inside, inst-walked, inst-next, first-of}
 use Rattle.edit_rules.proofs.judging.outline.bare_insts.Goals as goal
 
 pub loop-next-init : goal.loop-next-init

@@ -1,12 +1,10 @@
-use Rattle.std.proofs.Common.{ℕ, is_some, List, [], ◌∷◌, ◌++◌, ◌≡◌, length, slice_get, option_map, sym, ap, ◌∙◌, subst, arith}
+use Rattle.std.proofs.Common.{ℕ, is_some, List, length, slice_get, sym, ap, ◌∙◌, arith}
 use Rattle.std.proofs.lemmas.List.{length_push}
-use Rattle.emh_base.specs.declared.ids.ModId.{ModId}
-use Rattle.emh_base.specs.declared.plain.Conn.{Conn}
 use Rattle.emh_base.specs.declared.plain.PNet.{PNet}
 use Rattle.flatten_rules.specs.Lookup.{module_of}
 use Rattle.edit_rules.specs.Readers.{net_in, nets_of}
 use Rattle.edit_rules.specs.Outline.{bare_net}
-use Rattle.edit_rules.proofs.OutlineLemmas.{Walked, walked-none, walked-all, none-of, some-map, net-is, net-inside, net-walked, net-next, first-of}
+use Rattle.edit_rules.proofs.OutlineLemmas.{walked-none, walked-all, none-of, some-map, net-is, net-inside, net-walked, net-next, first-of}
 use Rattle.edit_rules.proofs.judging.outline.bare_nets.Goals as goal
 
 pub loop-next-init : goal.loop-next-init

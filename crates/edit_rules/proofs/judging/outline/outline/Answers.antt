@@ -1,4 +1,4 @@
-use Rattle.std.proofs.Common.{ℕ, List, ◌≡◌, length, slice_get, option_map, sym, ap, ◌∙◌, arith}
+use Rattle.std.proofs.Common.{List, length, slice_get, sym, ap, ◌∙◌, arith}
 use Rattle.std.proofs.lemmas.List.{length_push}
 use Rattle.emh_base.specs.declared.plain.PModule.{PModule}
 use Rattle.emh_base.specs.declared.plain.Plain.{Plain}
@@ -13,12 +13,12 @@ loop-next-init g c =
 
 pub bare-requires-clause-live : goal.bare-requires-clause-live
 bare-requires-clause-live g c =
-    module-is (g.F.Facts.state c.args.facts.now).plain c.requires c.args.name.now c.loop-next.modules c.in-Some.id c.loop-next.invariant.1
+    module-is (g.F.Facts.state c.args.facts.now).plain c.requires (bare c.args.name.now) c.loop-next.modules c.in-Some.id c.loop-next.invariant.1
     (sym c.loop-next.invariant.0 ∙ c.in-Some.is)
 
 pub loop-next-smaller : goal.loop-next-smaller
 loop-next-smaller g c =
-    let inside = module-inside (g.F.Facts.state c.args.facts.now).plain c.requires c.args.name.now c.loop-next.modules c.in-Some.id c.loop-next.invariant.1
+    let inside = module-inside (g.F.Facts.state c.args.facts.now).plain c.requires (bare c.args.name.now) c.loop-next.modules c.in-Some.id c.loop-next.invariant.1
     (sym c.loop-next.invariant.0 ∙ c.in-Some.is) in
     omega (arith, inside, ap length c.in_ok-push.ensures.ok ∙ length_push c.loop-next.modules c.in_ok-bare.field-0)
 
@@ -28,8 +28,8 @@ loop-next-preserved g c =
     let next = sym c.loop-next.invariant.0 ∙ c.in-Some.is in
     let y : PModule = c.in_ok-bare.field-0 in (
       c.module_after-next-in-Some.ensures
-          ∙ module-next M c.requires c.args.name.now c.loop-next.modules c.in-Some.id c.loop-next.invariant.1 next y c.push.new.self c.in_ok-push.ensures.ok,
-      module-walked M c.requires c.args.name.now c.loop-next.modules c.in-Some.id c.loop-next.invariant.1 next y c.push.new.self c.in_ok-bare.ensures c.in_ok-push.ensures.ok,
+          ∙ module-next M c.requires (bare c.args.name.now) c.loop-next.modules c.in-Some.id c.loop-next.invariant.1 next y c.push.new.self c.in_ok-push.ensures.ok,
+      module-walked M c.requires (bare c.args.name.now) c.loop-next.modules c.in-Some.id c.loop-next.invariant.1 next y c.push.new.self c.in_ok-bare.ensures c.in_ok-push.ensures.ok,
     )
 
 pub returns : goal.returns

@@ -1,4 +1,4 @@
-use Rattle.std.proofs.Common.{Some, option_map, is_some, true, sym, ap, ap₂, ◌≡◌, ◌∙◌}
+use Rattle.std.proofs.Common.{Some, option_map, is_some, sym, ap, ap₂, ◌≡◌, ◌∙◌}
 use Rattle.emh_base.specs.declared.ids.NetId.{NetId}
 use Rattle.emh_base.specs.declared.plain.Dir.{Dir}
 use Rattle.emh_base.specs.declared.plain.PPort.{PPort}
