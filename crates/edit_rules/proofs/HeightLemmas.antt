@@ -19,7 +19,7 @@ greatest-le : {X : Type 0} (f : X → ℕ) (n : ℕ) → ((x : X) → f x ≤ n)
 greatest-le f n low [] = omega arith
 greatest-le f n low (x ∷ xs) = omega (arith, low x, greatest-le f n low xs)
 
-greatest-push : {X : Type 0} (f : X → ℕ) (xs : List X) (x : X) → greatest_by f (xs ++ x ∷ []) ≡ max (f x) (greatest_by f xs)
+pub greatest-push : {X : Type 0} (f : X → ℕ) (xs : List X) (x : X) → greatest_by f (xs ++ x ∷ []) ≡ max (f x) (greatest_by f xs)
 greatest-push f [] x = refl
 greatest-push f (y ∷ xs) x = omega (arith, greatest-push f xs x)
 

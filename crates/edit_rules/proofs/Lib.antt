@@ -14,6 +14,7 @@ pub mod ReadLemmas
 pub mod PortLemmas
 pub mod MoreLemmas
 pub mod OutlineLemmas
+pub mod LeafLemmas
 pub mod AlikeLemmas
 pub mod TopLemmas
 pub mod GoodWalks

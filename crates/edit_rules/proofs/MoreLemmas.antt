@@ -38,7 +38,7 @@ changed-found F ids id (x ∷ xs) =
 abbrev pub masters_of : Option PModule → List ModId
 masters_of m = map (λ (inst : PInst). inst.master) (insts_of m)
 
-sum-masters : (t : ModId → ℕ) (xs : List PInst) → sum_by (λ (inst : PInst). t inst.master) xs ≡ sum_by t (map (λ (inst : PInst). inst.master) xs)
+pub sum-masters : (t : ModId → ℕ) (xs : List PInst) → sum_by (λ (inst : PInst). t inst.master) xs ≡ sum_by t (map (λ (inst : PInst). inst.master) xs)
 sum-masters t [] = refl
 sum-masters t (x ∷ xs) =
     omega (arith, sum_by-cons (λ (inst : PInst). t inst.master) x xs, sum_by-cons t x.master (map (λ (inst : PInst). inst.master) xs), sum-masters t xs)

@@ -272,7 +272,7 @@ leaf-alone : (M : Plain) (m : ModId) (levels : ℕ) → insts_of (module_of M m)
 unfolding unfolded
 leaf-alone M m levels none = ap (λ insts. ([], m) ∷ flat_map (λ inst. unfolded M ([] ++ inst.id ∷ []) inst.master levels) insts) none
 
-leaf-empty : (M : Plain) (sound : IsSound M) (m : ModId) (found : Option PModule) → found ≡ module_of M m → is_leaf found ≡ true → insts_of found ≡ []
+pub leaf-empty : (M : Plain) (sound : IsSound M) (m : ModId) (found : Option PModule) → found ≡ module_of M m → is_leaf found ≡ true → insts_of found ≡ []
 leaf-empty M sound m None at leaf = refl
 leaf-empty M sound m (Some h) at leaf = ((sound-found M m h sound at).cell leaf).insts
 

@@ -1,10 +1,13 @@
-ghost use Rattle.std.specs.Prelude.{◌≡◌, ◌<◌, map, AllPairs, IsTrue, IfOk};
+ghost use Rattle.std.specs.Prelude.{◌≡◌, ◌&&◌, false, None, is_some, map, IsTrue, IfOk};
 ghost use Rattle.emh_base.specs.declared.plain.PModule.{PModule};
+ghost use Rattle.flatten_rules.specs.Lookup.{module_of};
+ghost use Rattle.flatten_rules.specs.Domains.{is_leaf};
 ghost use Rattle.flatten_rules.specs.Sound.{IsSound};
 ghost use Rattle.edit_rules.specs.Good.{IsGoodState};
 ghost use Rattle.edit_rules.specs.Insts.{create_inst};
 ghost use Rattle.edit_rules.specs.Limits.{is_too_deep, has_too_many_occurrences, has_too_many_bits, leads_to};
 ghost use Rattle.edit_rules.specs.Readers.{is_module};
+ghost use Rattle.edit_rules.specs.Facts.{inst_after};
 
 use super::outline::{grown_outline, outline};
 use crate::depth::is_too_deep;
@@ -23,7 +26,8 @@ pub struct Above {
     pub too_many_bits: bool,
 }
 
-/// Looks at the limits with an instance more, by a pass over the modules that are read, or two where the master is no leaf.
+/// Looks at the limits with an instance more in a module. A leaf in a module that has an instance already makes no walk
+/// longer and adds no net bit, and an occurrence below each of its module; else the whole table is looked at.
 pub fn limits_with<F: Facts>(
     alloc: Global,
     facts: &F,
@@ -32,6 +36,8 @@ pub fn limits_with<F: Facts>(
     master: ModId,
 ) -> Result<Above, NoMemory>
     requires good { IsGoodState (F.state facts.now) }
+    requires holder { IsTrue (is_module (F.state facts.now).plain id) }
+    requires inner { is_leaf (module_of (F.state facts.now).plain id) ≡ false }
     requires live { IsTrue (is_module (F.state facts.now).plain master) }
     ensures recursive { IfOk result (λ above. above.recursive ≡ leads_to (F.state facts.now).plain master id) }
     ensures depth { IfOk result (λ above. above.too_deep ≡ is_too_deep (create_inst (F.state facts.now).plain id name.now master)) }
@@ -40,34 +46,37 @@ pub fn limits_with<F: Facts>(
     ensures bits { IfOk result (λ above. above.too_many_bits
         ≡ has_too_many_bits (create_inst (F.state facts.now).plain id name.now master) (F.state facts.now).top) }
 {
-    let recursive = leads_to_by(alloc, facts, name, master, id)?;
+    if adds_leaves(facts, id, master) {
+        return Ok(Above {
+            recursive: false,
+            too_deep: false,
+            too_many_occurrences: facts.totals().occurrences + facts.times(id) > 1_000_000,
+            too_many_bits: false,
+        });
+    }
+    let plain = outline(alloc, facts, name)?;
     let made = grown_outline(alloc, facts, name, id, master)?;
     let top = top_of(facts, &made);
     Ok(Above {
-        recursive,
+        recursive: leads_to(&plain, master, id)?,
         too_deep: is_too_deep(&made)?,
         too_many_occurrences: has_too_many_occurrences(&made, top)?,
         too_many_bits: has_too_many_bits(&made, top)?,
     })
 }
 
-/// Whether a walk of instances down from a module leads to another one, or they are the same. A leaf leads to itself alone.
-fn leads_to_by<F: Facts>(
-    alloc: Global,
-    facts: &F,
-    name: &Name,
-    from: ModId,
-    to: ModId,
-) -> Result<bool, NoMemory>
+/// Whether the master is a leaf, and the module has an instance already.
+fn adds_leaves<F: Facts>(facts: &F, id: ModId, master: ModId) -> bool
     requires sound { IsSound (F.state facts.now).plain }
-    requires live { IsTrue (is_module (F.state facts.now).plain from) }
-    ensures { IfOk result (λ leads. leads ≡ leads_to (F.state facts.now).plain from to) }
+    requires holder { IsTrue (is_module (F.state facts.now).plain id) }
+    requires live { IsTrue (is_module (F.state facts.now).plain master) }
+    ensures { result ≡ (is_leaf (module_of (F.state facts.now).plain master) && is_some (inst_after (F.state facts.now) id None)) }
 {
-    if facts.is_leaf(from) {
-        return Ok(from.0 == to.0);
+    if facts.is_leaf(master) {
+        facts.inst_after(id, None).is_some()
+    } else {
+        false
     }
-    let plain = outline(alloc, facts, name)?;
-    Ok(leads_to(&plain, from, to)?)
 }
 
 /// The top, by a look at each module.
