@@ -27,7 +27,7 @@ pub struct Above {
 }
 
 /// Looks at the limits with an instance more in a module. A leaf in a module that has an instance already makes no walk
-/// longer and adds no net bit, and an occurrence below each of its module; else the whole table is looked at.
+/// longer and adds no net bit, but an occurrence wherever the module occurs. For any other, the whole table is looked at.
 pub fn limits_with<F: Facts>(
     alloc: Global,
     facts: &F,
