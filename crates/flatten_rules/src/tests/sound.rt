@@ -1,454 +1,563 @@
-ghost use Rattle.std.specs.Prelude.{◌<◌, ◌≤◌};
-
-use super::tables::name_of;
+use super::tables::{EMPTY, Inst, Module, Net, table_of};
 use crate::is_sound;
-use emh_base::{
-    Conn, Dir, InstId, List, ModId, NetId, NoMemory, PInst, PModule, PNet, PPort, Plain, Range, Src,
-};
+use emh_base::{Dir, NetId, NoMemory, Range, Src};
 use std::alloc::Global;
 use std::test::Fail;
 
-/// A table of a leaf cell with two nets and a module with three nets, all of them ports, and two instances of the cell.
-/// Names are numbers.
-#[derive(Clone, Copy)]
-struct Shape {
-    ids: [u32; 2],
-    /// Whether the cell stands after the module.
-    cell_last: bool,
-    names: [u32; 2],
-    next_module: u32,
-    leaf: bool,
-    locked: bool,
-    cell_locked: bool,
-    cell_ports: u32,
-    net_ids: [u32; 3],
-    net_names: [u32; 3],
-    range: (u32, u32),
-    next_net: u32,
-    ports: [u32; 3],
-    port_count: usize,
-    inst_ids: [u32; 2],
-    inst_names: [u32; 2],
-    masters: [u32; 2],
-    next_inst: u32,
-    /// How many connections each instance has, and how many sources each connection.
-    conns: u32,
-    sources: u32,
-    source: Src,
-}
+const A: Net = (0, "a", None);
 
-const SOUND: Shape = Shape {
-    ids: [0, 2],
-    cell_last: false,
-    names: [8, 9],
-    next_module: 3,
-    leaf: false,
-    locked: true,
-    cell_locked: false,
-    cell_ports: 2,
-    net_ids: [0, 1, 4],
-    net_names: [0, 1, 2],
-    range: (5, 2),
-    next_net: 5,
-    ports: [1, 0, 4],
-    port_count: 3,
-    inst_ids: [1, 3],
-    inst_names: [3, 4],
-    masters: [0, 0],
-    next_inst: 4,
-    conns: 2,
-    sources: 1,
-    source: Src::Bit(NetId(4), 3),
+const B: Net = (1, "b", None);
+
+const C: Net = (4, "c", Some(Range { left: 5, right: 2 }));
+
+/// The last bit of net c.
+const LAST: &[Src] = &[Src::Bit(NetId(4), 3)];
+
+const IN_0: (u32, Dir) = (0, Dir::Input);
+
+const IN_1: (u32, Dir) = (1, Dir::Input);
+
+const IN_4: (u32, Dir) = (4, Dir::Input);
+
+const CELL: Module = Module {
+    id: 0,
+    name: "cell",
+    leaf: true,
+    nets: &[A, B],
+    ports: &[IN_0, IN_1],
+    next_net: 2,
+    next_inst: 0,
+    ..EMPTY
 };
 
-fn table_of(alloc: Global, shape: Shape) -> Result<Plain, NoMemory> {
-    let mut modules = List::new(alloc);
-    if shape.cell_last {
-        modules.push(module_of(alloc, shape)?)?;
-        modules.push(cell_of(alloc, shape)?)?;
-    } else {
-        modules.push(cell_of(alloc, shape)?)?;
-        modules.push(module_of(alloc, shape)?)?;
+/// A module with three nets, all of them ports, and two instances of the cell.
+const HOLDER: Module = Module {
+    id: 2,
+    name: "holder",
+    leaf: false,
+    locked: true,
+    nets: &[A, B, C],
+    ports: &[IN_1, IN_0, IN_4],
+    insts: &[(1, "u", 0, &[LAST, LAST]), (3, "v", 0, &[LAST, LAST])],
+    next_net: 5,
+    next_inst: 4,
+};
+
+/// The same two instances, of module 2.
+const INSTS_OF_2: &[Inst] = &[(1, "u", 2, &[LAST, LAST]), (3, "v", 2, &[LAST, LAST])];
+
+/// The counter of modules.
+const NEXT: u32 = 3;
+
+/// Tables, each with what is said of it.
+type Tables = &'static [(&'static str, &'static [Module])];
+
+/// What is said of the first of some tables that is sound.
+fn first_sound(alloc: Global, tables: Tables) -> Result<Option<&'static str>, NoMemory> {
+    for (what, modules) in tables {
+        let plain = table_of(alloc, modules, NEXT)?;
+        if is_sound(alloc, &plain)? {
+            return Ok(Some(*what));
+        }
     }
-    Ok(Plain {
-        modules,
-        next_module: shape.next_module,
-    })
+    Ok(None)
 }
 
-fn cell_of(alloc: Global, shape: Shape) -> Result<PModule, NoMemory> {
-    let mut nets = List::new(alloc);
-    for id in 0..2 {
-        nets.push(net_of(alloc, id, id, None)?)?;
-    }
-    let mut ports = List::new(alloc);
-    for net in 0..shape.cell_ports {
-        ports.push(port_of(net))?;
-    }
-    Ok(PModule {
-        id: ModId(shape.ids[0]),
-        name: name_of(alloc, shape.names[0])?,
-        leaf: true,
-        locked: shape.cell_locked,
-        nets,
-        ports,
-        insts: List::new(alloc),
-        next_net: 2,
-        next_inst: 0,
-    })
-}
+// Each table has one fault. They stand in several lists, since a long one is heavy to check.
 
-fn module_of(alloc: Global, shape: Shape) -> Result<PModule, NoMemory> {
-    let (left, right) = shape.range;
-    let ranges = [None, None, Some(Range { left, right })];
-    let mut nets = List::new(alloc);
-    for at in 0..3 {
-        nets.push(net_of(alloc, shape.net_ids[at], shape.net_names[at], ranges[at])?)?;
-    }
-    let mut ports = List::new(alloc);
-    for net in shape.ports.iter().take(shape.port_count) {
-        ports.push(port_of(*net))?;
-    }
-    let mut insts = List::new(alloc);
-    for at in 0..2 {
-        insts.push(inst_of(alloc, shape, at)?)?;
-    }
-    Ok(PModule {
-        id: ModId(shape.ids[1]),
-        name: name_of(alloc, shape.names[1])?,
-        leaf: shape.leaf,
-        locked: shape.locked,
-        nets,
-        ports,
-        insts,
-        next_net: shape.next_net,
-        next_inst: shape.next_inst,
-    })
-}
-
-fn net_of(alloc: Global, id: u32, name: u32, range: Option<Range>) -> Result<PNet, NoMemory> {
-    Ok(PNet {
-        id: NetId(id),
-        name: name_of(alloc, name)?,
-        range,
-    })
-}
-
-fn port_of(net: u32) -> PPort {
-    PPort {
-        net: NetId(net),
-        dir: Dir::Input,
-    }
-}
-
-fn inst_of(alloc: Global, shape: Shape, at: usize) -> Result<PInst, NoMemory>
-    requires { at < 2 }
-{
-    let mut conns = List::new(alloc);
-    for _ in 0..shape.conns {
-        conns.push(conn_of(alloc, shape.source, shape.sources)?)?;
-    }
-    Ok(PInst {
-        id: InstId(shape.inst_ids[at]),
-        name: name_of(alloc, shape.inst_names[at])?,
-        master: ModId(shape.masters[at]),
-        conns,
-    })
-}
-
-/// A connection of as many sources, each this one; open where there are none.
-fn conn_of(alloc: Global, source: Src, sources: u32) -> Result<Conn, NoMemory> {
-    if sources == 0 {
-        return Ok(Conn::Open);
-    }
-    let mut bits = List::new(alloc);
-    for _ in 0..sources {
-        bits.push(source)?;
-    }
-    Ok(Conn::Bits(bits))
-}
-
-/// Each has one fault.
-static FAULTS: [(&str, Shape); 30] = [
+const MODULES: Tables = &[
     (
         "two modules of one name",
-        Shape {
-            names: [9, 9],
-            ..SOUND
-        },
+        &[
+            CELL,
+            Module {
+                name: "cell",
+                ..HOLDER
+            },
+        ],
     ),
     (
         "module ids that fall",
-        Shape {
-            ids: [2, 0],
-            masters: [2, 2],
-            ..SOUND
-        },
+        &[
+            Module { id: 2, ..CELL },
+            Module {
+                id: 0,
+                insts: INSTS_OF_2,
+                ..HOLDER
+            },
+        ],
     ),
     (
         "a module id twice",
-        Shape {
-            ids: [2, 2],
-            masters: [2, 2],
-            ..SOUND
-        },
+        &[
+            Module { id: 2, ..CELL },
+            Module {
+                insts: INSTS_OF_2,
+                ..HOLDER
+            },
+        ],
     ),
     (
         "a module id at the counter",
-        Shape {
-            next_module: 2,
-            ..SOUND
-        },
-    ),
-    (
-        "two nets of one name",
-        Shape {
-            net_names: [0, 1, 0],
-            ..SOUND
-        },
-    ),
-    (
-        "two instances of one name",
-        Shape {
-            inst_names: [3, 3],
-            ..SOUND
-        },
-    ),
-    (
-        "a net named as an instance",
-        Shape {
-            net_names: [0, 1, 4],
-            ..SOUND
-        },
-    ),
-    (
-        "net ids that fall",
-        Shape {
-            net_ids: [1, 0, 4],
-            ..SOUND
-        },
-    ),
-    (
-        "a net id twice",
-        Shape {
-            net_ids: [1, 1, 4],
-            ports: [1, 4, 4],
-            port_count: 2,
-            ..SOUND
-        },
-    ),
-    (
-        "a net id at the counter",
-        Shape {
-            next_net: 4,
-            ..SOUND
-        },
-    ),
-    (
-        "no net id below the counter",
-        Shape {
-            next_net: 0,
-            ..SOUND
-        },
-    ),
-    (
-        "an index above 65,535",
-        Shape {
-            range: (65536, 65533),
-            ..SOUND
-        },
-    ),
-    (
-        "an index above 65,535, to the right",
-        Shape {
-            range: (65533, 65536),
-            ..SOUND
-        },
-    ),
-    (
-        "a net of 4,097 bits",
-        Shape {
-            range: (0, 4096),
-            ..SOUND
-        },
-    ),
-    (
-        "a port without a net",
-        Shape {
-            ports: [0, 1, 3],
-            ..SOUND
-        },
-    ),
-    (
-        "two ports of one net",
-        Shape {
-            ports: [0, 4, 0],
-            ..SOUND
-        },
-    ),
-    (
-        "instance ids that fall",
-        Shape {
-            inst_ids: [3, 1],
-            ..SOUND
-        },
-    ),
-    (
-        "an instance id twice",
-        Shape {
-            inst_ids: [3, 3],
-            ..SOUND
-        },
-    ),
-    (
-        "an instance id at the counter",
-        Shape {
-            next_inst: 3,
-            ..SOUND
-        },
-    ),
-    (
-        "a master that isn't there",
-        Shape {
-            masters: [0, 1],
-            ..SOUND
-        },
-    ),
-    ("a connection too few", Shape { conns: 1, ..SOUND }),
-    ("a connection too many", Shape { conns: 3, ..SOUND }),
-    (
-        "a source too many",
-        Shape {
-            sources: 2,
-            ..SOUND
-        },
-    ),
-    (
-        "a net that isn't there",
-        Shape {
-            source: Src::Bit(NetId(3), 0),
-            ..SOUND
-        },
-    ),
-    (
-        "a bit that the net hasn't",
-        Shape {
-            source: Src::Bit(NetId(4), 4),
-            ..SOUND
-        },
-    ),
-    (
-        "a bit that a net without range hasn't",
-        Shape {
-            source: Src::Bit(NetId(0), 1),
-            ..SOUND
-        },
+        &[CELL, Module { id: NEXT, ..HOLDER }],
     ),
     (
         "a leaf with instances",
-        Shape {
-            leaf: true,
-            locked: false,
-            ..SOUND
-        },
+        &[
+            CELL,
+            Module {
+                leaf: true,
+                locked: false,
+                ..HOLDER
+            },
+        ],
     ),
     (
         "a leaf with an inner net",
-        Shape {
-            cell_ports: 1,
-            conns: 1,
-            ..SOUND
-        },
+        &[
+            Module {
+                ports: &[IN_0],
+                ..CELL
+            },
+            Module {
+                insts: &[(1, "u", 0, &[LAST])],
+                ..HOLDER
+            },
+        ],
     ),
     (
         "a locked leaf",
-        Shape {
-            cell_locked: true,
-            ..SOUND
-        },
+        &[
+            Module {
+                locked: true,
+                ..CELL
+            },
+            HOLDER,
+        ],
     ),
     (
         "an instance of its own module",
-        Shape {
-            masters: [2, 2],
-            conns: 3,
-            sources: 0,
-            ..SOUND
-        },
+        &[
+            CELL,
+            Module {
+                insts: &[(1, "u", 2, &[&[], &[], &[]])],
+                ..HOLDER
+            },
+        ],
     ),
 ];
 
 #[test]
-fn each_fault_makes_a_table_unsound(rt: HostRuntime) -> Result<(), Fail> {
-    for (what, shape) in &FAULTS {
-        let plain = table_of(rt.alloc(), *shape)?;
-        assert!(rt; !is_sound(rt.alloc(), &plain)?, "{what}");
-    }
+fn faults_of_modules_make_a_table_unsound(rt: HostRuntime) -> Result<(), Fail> {
+    assert_eq!(rt; first_sound(rt.alloc(), MODULES)?, None);
     Ok(())
 }
 
-/// None has a fault.
-static NO_FAULTS: [(&str, Shape); 8] = [
-    ("as it stands", SOUND),
+const NETS: Tables = &[
+    (
+        "two nets of one name",
+        &[
+            CELL,
+            Module {
+                nets: &[(0, "c", None), B, C],
+                ..HOLDER
+            },
+        ],
+    ),
+    (
+        "a net named as an instance",
+        &[
+            CELL,
+            Module {
+                nets: &[(0, "v", None), B, C],
+                ..HOLDER
+            },
+        ],
+    ),
+    (
+        "net ids that fall",
+        &[
+            CELL,
+            Module {
+                nets: &[(1, "b", None), (0, "a", None), C],
+                ..HOLDER
+            },
+        ],
+    ),
+    (
+        "a net id twice",
+        &[
+            CELL,
+            Module {
+                nets: &[(1, "a", None), B, C],
+                ports: &[IN_1, IN_4],
+                ..HOLDER
+            },
+        ],
+    ),
+    (
+        "a net id at the counter",
+        &[
+            CELL,
+            Module {
+                next_net: 4,
+                ..HOLDER
+            },
+        ],
+    ),
+    (
+        "no net id below the counter",
+        &[
+            CELL,
+            Module {
+                next_net: 0,
+                ..HOLDER
+            },
+        ],
+    ),
+];
+
+#[test]
+fn faults_of_nets_make_a_table_unsound(rt: HostRuntime) -> Result<(), Fail> {
+    assert_eq!(rt; first_sound(rt.alloc(), NETS)?, None);
+    Ok(())
+}
+
+const PORTS: Tables = &[
+    (
+        "an index above 65,535",
+        &[
+            CELL,
+            Module {
+                nets: &[
+                    A,
+                    B,
+                    (
+                        4,
+                        "c",
+                        Some(Range {
+                            left: 65536,
+                            right: 65533,
+                        }),
+                    ),
+                ],
+                ..HOLDER
+            },
+        ],
+    ),
+    (
+        "an index above 65,535, to the right",
+        &[
+            CELL,
+            Module {
+                nets: &[
+                    A,
+                    B,
+                    (
+                        4,
+                        "c",
+                        Some(Range {
+                            left: 65533,
+                            right: 65536,
+                        }),
+                    ),
+                ],
+                ..HOLDER
+            },
+        ],
+    ),
+    (
+        "a net of 4,097 bits",
+        &[
+            CELL,
+            Module {
+                nets: &[
+                    A,
+                    B,
+                    (
+                        4,
+                        "c",
+                        Some(Range {
+                            left: 0,
+                            right: 4096,
+                        }),
+                    ),
+                ],
+                ..HOLDER
+            },
+        ],
+    ),
+    (
+        "a port without a net",
+        &[
+            CELL,
+            Module {
+                ports: &[IN_0, IN_1, (3, Dir::Input)],
+                ..HOLDER
+            },
+        ],
+    ),
+    (
+        "two ports of one net",
+        &[
+            CELL,
+            Module {
+                ports: &[IN_0, IN_4, IN_0],
+                ..HOLDER
+            },
+        ],
+    ),
+];
+
+#[test]
+fn faults_of_ranges_and_ports_make_a_table_unsound(rt: HostRuntime) -> Result<(), Fail> {
+    assert_eq!(rt; first_sound(rt.alloc(), PORTS)?, None);
+    Ok(())
+}
+
+const INSTS: Tables = &[
+    (
+        "two instances of one name",
+        &[
+            CELL,
+            Module {
+                insts: &[(1, "u", 0, &[LAST, LAST]), (3, "u", 0, &[LAST, LAST])],
+                ..HOLDER
+            },
+        ],
+    ),
+    (
+        "instance ids that fall",
+        &[
+            CELL,
+            Module {
+                insts: &[(3, "u", 0, &[LAST, LAST]), (1, "v", 0, &[LAST, LAST])],
+                ..HOLDER
+            },
+        ],
+    ),
+    (
+        "an instance id twice",
+        &[
+            CELL,
+            Module {
+                insts: &[(3, "u", 0, &[LAST, LAST]), (3, "v", 0, &[LAST, LAST])],
+                ..HOLDER
+            },
+        ],
+    ),
+    (
+        "an instance id at the counter",
+        &[
+            CELL,
+            Module {
+                next_inst: 3,
+                ..HOLDER
+            },
+        ],
+    ),
+    (
+        "a master that isn't there",
+        &[
+            CELL,
+            Module {
+                insts: &[(1, "u", 0, &[LAST, LAST]), (3, "v", 1, &[LAST, LAST])],
+                ..HOLDER
+            },
+        ],
+    ),
+];
+
+#[test]
+fn faults_of_instances_make_a_table_unsound(rt: HostRuntime) -> Result<(), Fail> {
+    assert_eq!(rt; first_sound(rt.alloc(), INSTS)?, None);
+    Ok(())
+}
+
+const CONNS: Tables = &[
+    (
+        "a connection too few",
+        &[
+            CELL,
+            Module {
+                insts: &[(1, "u", 0, &[LAST])],
+                ..HOLDER
+            },
+        ],
+    ),
+    (
+        "a connection too many",
+        &[
+            CELL,
+            Module {
+                insts: &[(1, "u", 0, &[LAST, LAST, LAST])],
+                ..HOLDER
+            },
+        ],
+    ),
+    (
+        "a source too many",
+        &[
+            CELL,
+            Module {
+                insts: &[(
+                    1,
+                    "u",
+                    0,
+                    &[LAST, &[Src::Bit(NetId(4), 3), Src::Bit(NetId(4), 3)]],
+                )],
+                ..HOLDER
+            },
+        ],
+    ),
+    (
+        "a net that isn't there",
+        &[
+            CELL,
+            Module {
+                insts: &[(1, "u", 0, &[LAST, &[Src::Bit(NetId(3), 0)]])],
+                ..HOLDER
+            },
+        ],
+    ),
+    (
+        "a bit that the net hasn't",
+        &[
+            CELL,
+            Module {
+                insts: &[(1, "u", 0, &[LAST, &[Src::Bit(NetId(4), 4)]])],
+                ..HOLDER
+            },
+        ],
+    ),
+    (
+        "a bit that a net without range hasn't",
+        &[
+            CELL,
+            Module {
+                insts: &[(1, "u", 0, &[LAST, &[Src::Bit(NetId(0), 1)]])],
+                ..HOLDER
+            },
+        ],
+    ),
+];
+
+#[test]
+fn faults_of_connections_make_a_table_unsound(rt: HostRuntime) -> Result<(), Fail> {
+    assert_eq!(rt; first_sound(rt.alloc(), CONNS)?, None);
+    Ok(())
+}
+
+/// None has a fault. The counter of modules is told.
+const NO_FAULTS: &[(&str, &[Module], u32)] = &[
+    ("as it stands", &[CELL, HOLDER], NEXT),
     (
         "a master that comes later",
-        Shape {
-            cell_last: true,
-            ids: [2, 0],
-            masters: [2, 2],
-            ..SOUND
-        },
+        &[
+            Module {
+                id: 0,
+                insts: INSTS_OF_2,
+                ..HOLDER
+            },
+            Module { id: 2, ..CELL },
+        ],
+        NEXT,
     ),
     (
         "a range of 4,096 bits that rises",
-        Shape {
-            range: (1, 4096),
-            ..SOUND
-        },
+        &[
+            CELL,
+            Module {
+                nets: &[
+                    A,
+                    B,
+                    (
+                        4,
+                        "c",
+                        Some(Range {
+                            left: 1,
+                            right: 4096,
+                        }),
+                    ),
+                ],
+                ..HOLDER
+            },
+        ],
+        NEXT,
     ),
     (
         "a range of 4,096 bits that falls",
-        Shape {
-            range: (65535, 61440),
-            ..SOUND
-        },
+        &[
+            CELL,
+            Module {
+                nets: &[
+                    A,
+                    B,
+                    (
+                        4,
+                        "c",
+                        Some(Range {
+                            left: 65535,
+                            right: 61440,
+                        }),
+                    ),
+                ],
+                ..HOLDER
+            },
+        ],
+        NEXT,
     ),
     (
         "ties",
-        Shape {
-            source: Src::Tie1,
-            ..SOUND
-        },
+        &[
+            CELL,
+            Module {
+                insts: &[(1, "u", 0, &[&[Src::Tie0], &[Src::Tie1]])],
+                ..HOLDER
+            },
+        ],
+        NEXT,
     ),
     (
         "open connections",
-        Shape {
-            sources: 0,
-            ..SOUND
-        },
+        &[
+            CELL,
+            Module {
+                insts: &[(1, "u", 0, &[&[], &[]])],
+                ..HOLDER
+            },
+        ],
+        NEXT,
     ),
     (
         "an instance named as its module",
-        Shape {
-            inst_names: [3, 9],
-            ..SOUND
-        },
+        &[
+            CELL,
+            Module {
+                insts: &[(1, "holder", 0, &[LAST, LAST])],
+                ..HOLDER
+            },
+        ],
+        NEXT,
     ),
     (
         "counters at the limit",
-        Shape {
-            next_module: u32::MAX,
-            next_net: u32::MAX,
-            next_inst: u32::MAX,
-            ..SOUND
-        },
+        &[
+            CELL,
+            Module {
+                next_net: u32::MAX,
+                next_inst: u32::MAX,
+                ..HOLDER
+            },
+        ],
+        u32::MAX,
     ),
 ];
 
 #[test]
 fn what_is_no_fault_leaves_a_table_sound(rt: HostRuntime) -> Result<(), Fail> {
-    for (what, shape) in &NO_FAULTS {
-        let plain = table_of(rt.alloc(), *shape)?;
+    for (what, modules, next_module) in NO_FAULTS {
+        let plain = table_of(rt.alloc(), modules, *next_module)?;
         assert!(rt; is_sound(rt.alloc(), &plain)?, "{what}");
     }
     Ok(())

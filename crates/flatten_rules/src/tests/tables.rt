@@ -1,183 +1,183 @@
-ghost use Rattle.std.specs.Prelude.{◌<◌, ◌≤◌};
-
+//! Tables as constants, and large ones by numbers.
 use emh_base::{
     Conn, Dir, InstId, List, ModId, Name, NetId, NoMemory, PInst, PModule, PNet, PPort, Plain,
-    Range,
+    Range, Src,
 };
 use std::alloc::Global;
 
-/// The counter that all test tables have: ids are below it.
-const NEXT: u32 = 1000;
+/// A net's id, its name and its range.
+pub(crate) type Net = (u32, &'static str, Option<Range>);
 
-/// A table of no modules.
-pub(crate) fn empty_table(alloc: Global) -> Plain {
-    Plain {
-        modules: List::new(alloc),
-        next_module: NEXT,
+/// An instance's id, its name, its master and the sources at each port, which is open where there are none.
+pub(crate) type Inst = (u32, &'static str, u32, &'static [&'static [Src]]);
+
+/// A module. A port is told by the id of its net.
+pub(crate) struct Module {
+    pub id: u32,
+    pub name: &'static str,
+    pub leaf: bool,
+    pub locked: bool,
+    pub nets: &'static [Net],
+    pub ports: &'static [(u32, Dir)],
+    pub insts: &'static [Inst],
+    pub next_net: u32,
+    pub next_inst: u32,
+}
+
+/// A module that holds nothing.
+pub(crate) const EMPTY: Module = Module {
+    id: 0,
+    name: "",
+    leaf: false,
+    locked: false,
+    nets: &[],
+    ports: &[],
+    insts: &[],
+    next_net: 10,
+    next_inst: 10,
+};
+
+/// The table of some modules.
+pub(crate) fn table_of(
+    alloc: Global,
+    shapes: &[Module],
+    next_module: u32,
+) -> Result<Plain, NoMemory> {
+    let mut modules = List::new(alloc);
+    for shape in shapes {
+        modules.push(module_of(alloc, shape)?)?;
+    }
+    Ok(Plain {
+        modules,
+        next_module,
+    })
+}
+
+fn module_of(alloc: Global, shape: &Module) -> Result<PModule, NoMemory> {
+    Ok(PModule {
+        id: ModId(shape.id),
+        name: name_of(alloc, shape.name)?,
+        leaf: shape.leaf,
+        locked: shape.locked,
+        nets: nets_of(alloc, shape.nets)?,
+        ports: ports_of(alloc, shape.ports)?,
+        insts: insts_of(alloc, shape.insts)?,
+        next_net: shape.next_net,
+        next_inst: shape.next_inst,
+    })
+}
+
+fn name_of(alloc: Global, text: &str) -> Result<Name, NoMemory> {
+    match Name::new(alloc, text.as_bytes()) {
+        Ok(name) => Ok(name),
+        Err(_) => Err(NoMemory),
     }
 }
 
-/// A module with an instance of each master, which leaves the master's ports open.
-pub(crate) fn add_module(
+fn nets_of(alloc: Global, shapes: &[Net]) -> Result<List<PNet>, NoMemory> {
+    let mut nets = List::new(alloc);
+    for (id, name, range) in shapes {
+        nets.push(PNet {
+            id: NetId(*id),
+            name: name_of(alloc, name)?,
+            range: *range,
+        })?;
+    }
+    Ok(nets)
+}
+
+fn ports_of(alloc: Global, shapes: &[(u32, Dir)]) -> Result<List<PPort>, NoMemory> {
+    let mut ports = List::new(alloc);
+    for (net, dir) in shapes {
+        ports.push(PPort {
+            net: NetId(*net),
+            dir: *dir,
+        })?;
+    }
+    Ok(ports)
+}
+
+fn insts_of(alloc: Global, shapes: &[Inst]) -> Result<List<PInst>, NoMemory> {
+    let mut insts = List::new(alloc);
+    for (id, name, master, ports) in shapes {
+        insts.push(PInst {
+            id: InstId(*id),
+            name: name_of(alloc, name)?,
+            master: ModId(*master),
+            conns: conns_of(alloc, ports)?,
+        })?;
+    }
+    Ok(insts)
+}
+
+fn conns_of(alloc: Global, ports: &[&[Src]]) -> Result<List<Conn>, NoMemory> {
+    let mut conns = List::new(alloc);
+    for sources in ports {
+        conns.push(conn_of(alloc, sources)?)?;
+    }
+    Ok(conns)
+}
+
+fn conn_of(alloc: Global, sources: &[Src]) -> Result<Conn, NoMemory> {
+    if sources.is_empty() {
+        return Ok(Conn::Open);
+    }
+    let mut bits = List::new(alloc);
+    for source in sources {
+        bits.push(*source)?;
+    }
+    Ok(Conn::Bits(bits))
+}
+
+/// A table that many modules fit in, and has none.
+pub(crate) fn empty_table(alloc: Global) -> Plain {
+    Plain {
+        modules: List::new(alloc),
+        next_module: 100_000,
+    }
+}
+
+/// Puts a module last that has an instance of each master, none of which has ports. Names are numbers.
+pub(crate) fn add(
     alloc: Global,
     plain: &mut Plain,
     id: u32,
     masters: &[u32],
 ) -> Result<(), NoMemory> {
-    let mut insts = List::new(alloc);
-    let mut number: u32 = 0;
-    for master in masters {
-        insts.push(PInst {
-            id: InstId(number),
-            name: name_of(alloc, number)?,
-            master: ModId(*master),
-            conns: all_open(alloc, plain, ModId(*master))?,
-        })?;
-        number = number.saturating_add(1);
-    }
-    add(
-        alloc,
-        plain,
-        id,
-        false,
-        Inside {
-            nets: List::new(alloc),
-            ports: List::new(alloc),
-            insts,
-        },
-    )
-}
-
-/// A module with one instance, of a master that has no ports.
-pub(crate) fn add_link(
-    alloc: Global,
-    plain: &mut Plain,
-    id: u32,
-    master: u32,
-) -> Result<(), NoMemory> {
-    let mut insts = List::new(alloc);
-    insts.push(PInst {
-        id: InstId(0),
-        name: name_of(alloc, 0)?,
-        master: ModId(master),
-        conns: List::new(alloc),
-    })?;
-    let inside = Inside {
-        nets: List::new(alloc),
-        ports: List::new(alloc),
-        insts,
-    };
-    add(alloc, plain, id, false, inside)
-}
-
-/// An open connection for each port of a module.
-fn all_open(alloc: Global, plain: &Plain, master: ModId) -> Result<List<Conn>, NoMemory> {
-    let mut conns = List::new(alloc);
-    for module in plain.modules.as_slice() {
-        if module.id == master {
-            for _port in module.ports.as_slice() {
-                conns.push(Conn::Open)?;
-            }
-        }
-    }
-    Ok(conns)
-}
-
-/// A module with a net of each width, each an input of a leaf and inside any other module.
-pub(crate) fn add_nets(
-    alloc: Global,
-    plain: &mut Plain,
-    id: u32,
-    leaf: bool,
-    widths: &[u32],
-) -> Result<(), NoMemory> {
-    let mut nets = List::new(alloc);
-    let mut ports = List::new(alloc);
-    let mut number: u32 = 0;
-    for width in widths {
-        if leaf {
-            ports.push(PPort {
-                net: NetId(number),
-                dir: Dir::Input,
-            })?;
-        }
-        nets.push(PNet {
-            id: NetId(number),
-            name: name_of(alloc, number)?,
-            range: Some(Range {
-                left: 0,
-                right: width.saturating_sub(1),
-            }),
-        })?;
-        number = number.saturating_add(1);
-    }
-    add(
-        alloc,
-        plain,
-        id,
-        leaf,
-        Inside {
-            nets,
-            ports,
-            insts: List::new(alloc),
-        },
-    )
-}
-
-/// Module 0 holds nothing, and each of the others two instances of the one before it.
-pub(crate) fn levels(alloc: Global, top: u32) -> Result<Plain, NoMemory> {
-    let mut plain = empty_table(alloc);
-    add_module(alloc, &mut plain, 0, &[])?;
-    for level in 0..top {
-        add_module(alloc, &mut plain, level + 1, &[level, level])?;
-    }
-    Ok(plain)
-}
-
-/// Module 0 holds nothing, and each of the others one instance of the one before it.
-pub(crate) fn chain(alloc: Global, top: u32) -> Result<Plain, NoMemory> {
-    let mut plain = empty_table(alloc);
-    add_module(alloc, &mut plain, 0, &[])?;
-    for link in 0..top {
-        add_module(alloc, &mut plain, link + 1, &[link])?;
-    }
-    Ok(plain)
-}
-
-/// What a module holds.
-#[derive(Drop)]
-struct Inside {
-    nets: List<PNet>,
-    ports: List<PPort>,
-    insts: List<PInst>,
-}
-
-fn add(
-    alloc: Global,
-    plain: &mut Plain,
-    id: u32,
-    leaf: bool,
-    inside: Inside,
-) -> Result<(), NoMemory> {
-    let Inside { nets, ports, insts } = inside;
     plain.modules.push(PModule {
         id: ModId(id),
-        name: name_of(alloc, id)?,
-        leaf,
+        name: name_of(alloc, id.to_string(alloc)?.as_str())?,
+        leaf: false,
         locked: false,
-        nets,
-        ports,
-        insts,
-        next_net: NEXT,
-        next_inst: NEXT,
+        nets: List::new(alloc),
+        ports: List::new(alloc),
+        insts: insts_by_masters(alloc, masters)?,
+        next_net: 0,
+        next_inst: 20,
     })
 }
 
-/// A name for a number.
-pub(crate) fn name_of(alloc: Global, number: u32) -> Result<Name, NoMemory> {
-    let text = number.to_string(alloc)?;
-    match Name::new(alloc, text.as_bytes()) {
-        Ok(name) => Ok(name),
-        Err(_) => Err(NoMemory),
+fn insts_by_masters(alloc: Global, masters: &[u32]) -> Result<List<PInst>, NoMemory> {
+    let mut insts = List::new(alloc);
+    let mut id: u32 = 0;
+    for master in masters {
+        insts.push(PInst {
+            id: InstId(id),
+            name: name_of(alloc, id.to_string(alloc)?.as_str())?,
+            master: ModId(*master),
+            conns: List::new(alloc),
+        })?;
+        id = id.saturating_add(1);
     }
+    Ok(insts)
+}
+
+/// Modules from 0 on, each with an instance of the next one, and the last one with these masters.
+pub(crate) fn chain_down(alloc: Global, links: u32, last: &[u32]) -> Result<Plain, NoMemory> {
+    let mut plain = empty_table(alloc);
+    for link in 0..links {
+        add(alloc, &mut plain, link, &[link + 1])?;
+    }
+    add(alloc, &mut plain, links, last)?;
+    Ok(plain)
 }
