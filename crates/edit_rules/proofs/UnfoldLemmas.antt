@@ -57,11 +57,13 @@ any-sum_by : {X : Type 0} (p : X → Bool) (xs : List X) → list_any p xs ≡ n
 any-sum_by p [] = refl
 any-sum_by {X} p (x ∷ xs) = rw (sum_by-cons (λ (y : X). cond (p y) 1 0) x xs) (any_step (p x) (list_any p xs) (sum_by (λ y. cond (p y) 1 0) xs) (any-sum_by p xs))
 
-pub leads-counted : (M : Plain) (from to : ModId) → leads_to M from to ≡ nat_lt 0 (counted (λ m _. cond (m.0 == to.0) 1 0) M 257 from)
-leads-counted M from to =
+pub leads-total : (M : Plain) (from to : ModId) → leads_to M from to ≡ nat_lt 0 (total (λ m. cond (m.0 == to.0) 1 0) M from 257)
+leads-total M from to =
     any-sum_by (λ (o : Occurrence). o.1.0 == to.0) (occurrences M from)
     ∙ ap (nat_lt 0) (total-unfolded (λ m. cond (m.0 == to.0) 1 0) M 257 [] from)
-    ∙ capped 0 (total (λ m. cond (m.0 == to.0) 1 0) M from 257) (omega arith)
+
+pub leads-counted : (M : Plain) (from to : ModId) → leads_to M from to ≡ nat_lt 0 (counted (λ m _. cond (m.0 == to.0) 1 0) M 257 from)
+leads-counted M from to = leads-total M from to ∙ capped 0 (total (λ m. cond (m.0 == to.0) 1 0) M from 257) (omega arith)
 
 -- where it is within the limits, nothing is capped
 pub occurrences-counted : (M : Plain) (top : ModId) → length (occurrences M top) ≤ 1000000 → counted (λ _ _. 1) M 257 top ≡ length (occurrences M top)

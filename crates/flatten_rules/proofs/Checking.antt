@@ -1,12 +1,9 @@
 -- What the checks of soundness rest on: connections one by one, ports and their flags.
-use Rattle.std.proofs.Common.{◌≡◌, ◌≢◌, ℕ, ◌↔◌, ◌+◌, ◌<◌, ◌≤◌, ◌==◌, ◌||◌, zero, suc, nat_eq, Bool, true, false, List, [], ◌∷◌, ◌++◌, length, take, set, replicate, get_or, find, position, cond, is_some, Vec, Global, Option, Some, None, IsTrue, IsSome, All, AllPairs, refl, sym, ap, ◌∙◌, subst, arith, ⊎_elim}
-use Rattle.std.specs.List.{list_any, position_or_len}
-use Rattle.std.proofs.lemmas.Bool.{cases_lt, cases_eq, false≢true, both_ways, eqb-true, eq-eqb, ne_eqb, or_right}
-use Rattle.std.proofs.lemmas.Bool.Decides.{nat_tests}
-use Rattle.std.proofs.lemmas.List.{take_more, take_all, length-take, length-set, length-replicate, get_or-replicate, length_push, get_or_push, get_or_append_left, get_or-take, get_or-set_same, get_or-set_other, get_or_default}
+use Rattle.std.proofs.Common.{◌≡◌, ◌≢◌, ℕ, ◌↔◌, ◌+◌, ◌<◌, ◌≤◌, ◌==◌, zero, suc, Bool, true, false, List, [], ◌∷◌, ◌++◌, length, take, set, replicate, get_or, find, position, is_some, Vec, Global, Option, Some, None, IsTrue, IsSome, All, AllPairs, refl, sym, ap, ◌∙◌, subst, arith, ⊎_elim}
+use Rattle.std.proofs.lemmas.Bool.{cases_lt, cases_eq, false≢true, both_ways, eqb-true, eq-eqb, ne_eqb}
+use Rattle.std.proofs.lemmas.List.{take_more, length-take, length-set, length-replicate, get_or-replicate, length_push, get_or_push, get_or_append_left, get_or-take, get_or-set_same, get_or-set_other, get_or_default}
 use Rattle.std.proofs.lemmas.List.Elements.{All-push, All-from_get_or}
 use Rattle.std.proofs.lemmas.List.Quantifiers.{all_pairs_push, position-Some}
-use Rattle.std.proofs.lemmas.List.Folds.{list_any_more, list_any_at, Any-from_list_any}
 use Rattle.emh_base.specs.declared.ids.NetId.{NetId}
 use Rattle.emh_base.specs.declared.plain.Conn.{Conn}
 use Rattle.emh_base.specs.declared.plain.PNet.{PNet}
@@ -14,7 +11,7 @@ use Rattle.emh_base.specs.declared.plain.PPort.{PPort}
 use Rattle.emh_base.specs.declared.plain.PModule.{PModule}
 use Rattle.emh_base.specs.declared.plain.Plain.{Plain}
 use Rattle.flatten_rules.specs.Lookup.{net_of, port_of}
-use Rattle.flatten_rules.specs.Sound.{FitPorts, FitsPort, IsCell, IsSoundModule}
+use Rattle.flatten_rules.specs.Sound.{FitPorts, FitsPort, IsSoundModule}
 use Rattle.flatten_rules.specs.Checks.{HasNets, HasPorts, ArePortPlaces, AreAllPortPlaces, port_place}
 use Rattle.flatten_rules.proofs.Places.{item-there, position-within, position-none, position-push_yes, position-push_no, none-fails, find-from_place, find-from_none}
 

@@ -1,10 +1,10 @@
 -- Walks of instances in a table, as walks in the graph of the modules' places.
-use Rattle.std.proofs.Common.{◌≡◌, ℕ, ◌+◌, ◌<◌, ◌≤◌, ◌==◌, ◌⊎◌, inl, inr, zero, suc, Bool, true, false, cond, List, [], ◌∷◌, ◌++◌, length, map, take, get_or, slice_get, find, position, filter_map, option_to_list, is_some, Option, Some, None, IsSome, IsSomeAnd, IfSome, All, AllPairs, Contains, refl, sym, ap, ◌∙◌, subst, arith, ⊎_elim}
+use Rattle.std.proofs.Common.{◌≡◌, ℕ, ◌+◌, ◌<◌, ◌≤◌, ◌==◌, ◌⊎◌, inl, inr, zero, suc, Bool, false, cond, List, [], ◌∷◌, ◌++◌, length, take, get_or, slice_get, filter_map, option_to_list, is_some, Option, Some, None, IsSomeAnd, All, AllPairs, Contains, refl, sym, ap, ◌∙◌, subst, arith, ⊎_elim}
 use Rattle.std.specs.List.{position_or_len, cons_option}
 use Rattle.std.proofs.lemmas.Bool.{cases_lt, lt-ltb, true≢false}
-use Rattle.std.proofs.lemmas.Option.{slice_get_within, get_or_from_slice_get, slice_get-get_or}
-use Rattle.std.proofs.lemmas.List.{length-map, get_or-map, get_or_default, take_more, append-nil}
-use Rattle.std.proofs.lemmas.List.Elements.{All-contains, All-nil, All-cons, Contains-append_cases, Contains-append_right, Contains-append_left, Contains-get_or, filter_map-append}
+use Rattle.std.proofs.lemmas.Option.{slice_get_within, get_or_from_slice_get}
+use Rattle.std.proofs.lemmas.List.{length-map, get_or-map, get_or_default, take_more}
+use Rattle.std.proofs.lemmas.List.Elements.{All-contains, All-nil, All-cons, Contains-append_cases, Contains-append_right, Contains-get_or, filter_map-append}
 use Rattle.std.proofs.lemmas.List.Folds.{find_at}
 use Rattle.emh_base.specs.declared.ids.ModId.{ModId}
 use Rattle.emh_base.specs.declared.ids.InstId.{InstId}
@@ -16,7 +16,7 @@ use Rattle.flatten_rules.specs.Unfolding.{module_up}
 use Rattle.flatten_rules.specs.Graph.{next, IsGraph, Leads, Reaches, IsFirstReturning, places_of, graph_of}
 use Rattle.flatten_rules.specs.Cycle.{OnCycle, IsFirstOnCycle}
 use Rattle.flatten_rules.proofs.Places.{item-there, found-at_place}
-use Rattle.flatten_rules.proofs.Walks.{Step, last_step, up-own, find-own, same-some}
+use Rattle.flatten_rules.proofs.Walks.{last_step, up-own, find-own, same-some}
 
 -- one more item
 pub filter_map-more : {X Y : Type 0} (h : X → Option Y) (xs : List X) (i : ℕ) (x : X) → i < length xs → x ≡ get_or xs i x → filter_map h (take (i + 1) xs) ≡ filter_map h (take i xs) ++ option_to_list (h x)

@@ -1,9 +1,9 @@
 -- The extents of modules: with one more instance, with the module itself, with one more level.
-use Rattle.std.proofs.Common.{◌≡◌, ℕ, zero, suc, ◌+◌, ◌<◌, ◌≤◌, ◌==◌, ◌&&◌, true, Decides, min, max, List, [], ◌∷◌, ◌++◌, map, length, take, get_or, slice_get, sum_by, filter_map, replicate, Option, Some, None, IsSome, All, refl, sym, ap, ◌∙◌, subst, arith, ⊎_elim, add-one, add-zero}
+use Rattle.std.proofs.Common.{◌≡◌, ℕ, zero, suc, ◌+◌, ◌<◌, ◌≤◌, ◌==◌, ◌&&◌, true, Decides, min, max, List, [], ◌∷◌, ◌++◌, length, take, get_or, sum_by, filter_map, Option, Some, None, IsSome, All, refl, sym, ap, ◌∙◌, subst, arith, ⊎_elim, add-one, add-zero}
 use Rattle.std.specs.List.{cons_option}
 use Rattle.std.proofs.lemmas.Bool.{cases_lt, and_parts, and_from, eq-eqb, eqb-true}
 use Rattle.std.proofs.lemmas.Option.{slice_get_within, get_or_from_slice_get}
-use Rattle.std.proofs.lemmas.List.{take_more, take_all, length-replicate, get_or-replicate, length_push, get_or_push, get_or_append_left, get_or_default}
+use Rattle.std.proofs.lemmas.List.{take_more, length_push, get_or_push, get_or_append_left, get_or_default}
 use Rattle.std.proofs.lemmas.List.Elements.{All-head, All-tail}
 use Rattle.std.proofs.lemmas.List.Sums.{sum_by_more}
 use Rattle.emh_base.specs.declared.ids.ModId.{ModId}

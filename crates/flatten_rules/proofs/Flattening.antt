@@ -1,5 +1,5 @@
 -- The lists that are computed afresh, part by part.
-use Rattle.std.proofs.Common.{◌≡◌, ℕ, zero, suc, ◌+◌, ◌-◌, ◌<◌, ◌≤◌, ◌==◌, Bool, true, false, cond, List, [], ◌∷◌, ◌++◌, map, filter, flat_map, length, take, get_or, Option, Some, None, append-nil, refl, sym, ap, ◌∙◌, subst, arith}
+use Rattle.std.proofs.Common.{◌≡◌, ℕ, zero, suc, ◌+◌, ◌-◌, ◌<◌, ◌≤◌, Bool, true, false, cond, List, [], ◌∷◌, ◌++◌, map, filter, flat_map, length, take, get_or, Option, Some, None, append-nil, refl, sym, ap, ◌∙◌, arith}
 use Rattle.std.specs.List.{range_with_len}
 use Rattle.std.proofs.lemmas.List.{append_assoc, map-append, take_more, take_all, get_or-map, length-map}
 use Rattle.std.proofs.lemmas.List.FromFn.{map-range_with_len_more}
@@ -16,12 +16,12 @@ use Rattle.emh_base.specs.declared.plain.Plain.{Plain}
 use Rattle.flatten_rules.specs.declared.domain.FreshOcc.{FreshOcc}
 use Rattle.flatten_rules.specs.Lookup.{module_of, net_of, insts_of}
 use Rattle.flatten_rules.specs.Unfolding.{Occurrence, unfolded, occurrences}
-use Rattle.flatten_rules.specs.Domains.{NetBit, Pin, offsets, bits_of_net, bits_inside, net_bits, is_leaf, block_instances, ports_of, pins_of_port, pins}
+use Rattle.flatten_rules.specs.Domains.{NetBit, Pin, bits_inside, is_leaf, ports_of, pins_of_port, pins}
 use Rattle.flatten_rules.specs.Fresh.{occ_of, fresh_occ, pins_of_net, pins_inside}
 use Rattle.flatten_rules.specs.declared.domain.FreshBit.{FreshBit}
 use Rattle.flatten_rules.specs.declared.domain.FreshPin.{FreshPin}
 use Rattle.flatten_rules.proofs.Walks.{id-of_net}
-use Rattle.flatten_rules.proofs.Unfolded.{below, unfolded-zero, unfolded-step}
+use Rattle.flatten_rules.proofs.Unfolded.{below, unfolded-step}
 
 abbrev pub net_bit : List InstId → NetId → ℕ → NetBit
 net_bit path net offset = record { path = path; net = net; offset = offset }

@@ -1,11 +1,11 @@
 -- Graphs: following the edges from a node, and ranks that rule cycles out.
-use Rattle.std.proofs.Common.{◌≡◌, ℕ, ◌+◌, ◌<◌, ◌≤◌, ◌==◌, ◌⊎◌, ◌↔◌, ◌||◌, Bool, true, false, nat_eq, List, [], ◌∷◌, ◌++◌, zero, suc, length, take, set, get_or, slice_get, Option, Some, None, IfSome, All, Contains, replicate, append-nil, refl, sym, ap, ◌∙◌, subst, arith, inl, inr, ⊎_elim}
+use Rattle.std.proofs.Common.{◌≡◌, ℕ, ◌+◌, ◌<◌, ◌≤◌, ◌↔◌, ◌||◌, Bool, true, false, nat_eq, List, [], ◌∷◌, ◌++◌, zero, suc, length, take, set, get_or, slice_get, Option, Some, None, IfSome, All, Contains, replicate, append-nil, refl, sym, ap, ◌∙◌, subst, arith, ⊎_elim}
 use Rattle.std.specs.List.{list_any, IsDistinct}
 use Rattle.std.specs.Cmp.{nat_eq_equiv}
-use Rattle.std.proofs.lemmas.Bool.{cases_lt, cases_eq, false≢true, eq-eqb, eqb-true, ne_eqb, false_from_ne_true, or_cases, both_ways}
-use Rattle.std.proofs.lemmas.Option.{slice_get_within, get_or_from_slice_get, slice_get-get_or}
-use Rattle.std.proofs.lemmas.List.{get_or_append_left, get_or-replicate, length-append, length-set, length_push, get_or-set_same, get_or-set_other, get_or_default, append_assoc, take_more}
-use Rattle.std.proofs.lemmas.List.Elements.{All-append, All-nil, All-weaker, All-contains, Contains-append_left, Contains-append_right, Contains-append_cases, Contains-get_or, Contains-push, All-more, All-push, All-contains_itself}
+use Rattle.std.proofs.lemmas.Bool.{cases_lt, cases_eq, false≢true, eqb-true, ne_eqb, false_from_ne_true, or_cases, both_ways}
+use Rattle.std.proofs.lemmas.Option.{slice_get_within, get_or_from_slice_get}
+use Rattle.std.proofs.lemmas.List.{get_or_append_left, length-set, get_or-set_same, get_or-set_other, get_or_default, append_assoc, take_more}
+use Rattle.std.proofs.lemmas.List.Elements.{All-append, All-nil, All-weaker, All-contains, Contains-append_left, Contains-append_right, Contains-push, All-push, All-contains_itself}
 use Rattle.std.proofs.lemmas.List.Folds.{list_any-append}
 use Rattle.std.proofs.lemmas.Map.Keys.{IsDistinct-push}
 use Rattle.std.proofs.lemmas.Map.Steps.{length-le_from_distinct_below}

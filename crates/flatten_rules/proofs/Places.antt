@@ -1,4 +1,4 @@
-use Rattle.std.proofs.Common.{◌≡◌, ◌≢◌, ℕ, ◌<◌, ◌≤◌, ◌==◌, nat_lt, Bool, true, false, List, [], ◌∷◌, ◌++◌, ◌+◌, length, get_or, Some, None, position, find, slice_get, zero, suc, IsSome, IsSomeAnd, IfSome, IfNone, AllPairs, arith, refl, sym, ap, ◌∙◌, Option, Bor, cond, ⊎_elim}
+use Rattle.std.proofs.Common.{◌≡◌, ◌≢◌, ℕ, ◌<◌, ◌≤◌, ◌==◌, nat_lt, Bool, true, false, List, [], ◌∷◌, ◌++◌, length, get_or, Some, None, position, find, slice_get, zero, suc, IsSome, IsSomeAnd, IfSome, IfNone, AllPairs, arith, refl, sym, ap, ◌∙◌, Option, Bor, cond, ⊎_elim}
 use Rattle.std.specs.List.{position_or_len, list_any}
 use Rattle.std.specs.Option.{option_copied}
 use Rattle.std.specs.Slice.{IsItemAt}

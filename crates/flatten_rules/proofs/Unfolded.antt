@@ -1,10 +1,10 @@
 -- The law of walks: which occurrences an unfolding has.
-use Rattle.std.proofs.Common.{◌≡◌, ◌≢◌, ◌↔◌, ℕ, zero, suc, ◌+◌, ◌-◌, ◌<◌, ◌≤◌, ◌==◌, ◌⊎◌, inl, inr, Bool, List, [], ◌∷◌, ◌++◌, length, map, reverse, flat_map, get_or, slice_get, find, Option, Some, None, option_map, option_and_then, IsSome, All, AllPairs, Contains, append-nil, refl, sym, ap, ◌∙◌, subst, arith, ⊎_elim}
+use Rattle.std.proofs.Common.{◌≡◌, ◌≢◌, ℕ, zero, suc, ◌-◌, ◌<◌, ◌≤◌, ◌==◌, Bool, List, [], ◌∷◌, ◌++◌, length, reverse, flat_map, get_or, slice_get, Option, Some, None, option_map, option_and_then, AllPairs, Contains, append-nil, refl, sym, ap, ◌∙◌, subst, arith, ⊎_elim}
 use Rattle.std.specs.List.{position_or_len}
 use Rattle.std.proofs.lemmas.Bool.{cases_lt}
 use Rattle.std.proofs.lemmas.Bool.Decides.{nat_tests}
 use Rattle.std.proofs.lemmas.Option.{slice_get_within, get_or_from_slice_get}
-use Rattle.std.proofs.lemmas.List.{append_assoc, append_cancel_left, length-append, get_or_append_left, get_or-append_right, get_or_default, reverse-append, reverse-reverse, length-reverse}
+use Rattle.std.proofs.lemmas.List.{append_assoc, append_cancel_left, length-append, get_or_append_left, get_or-append_right, reverse-append, reverse-reverse, length-reverse}
 use Rattle.std.proofs.lemmas.List.Elements.{All-contains, All-nil, All-cons, Contains-append_left, Contains-append_right, Contains-append_cases, Contains-get_or}
 use Rattle.std.proofs.lemmas.List.Folds.{find_at}
 use Rattle.emh_base.specs.declared.ids.ModId.{ModId}
@@ -13,12 +13,12 @@ use Rattle.emh_base.specs.declared.plain.PInst.{PInst}
 use Rattle.emh_base.specs.declared.plain.PModule.{PModule}
 use Rattle.emh_base.specs.declared.plain.Plain.{Plain}
 use Rattle.flatten_rules.specs.Lookup.{module_of, inst_of, insts_of, InstsRise}
-use Rattle.flatten_rules.specs.Unfolding.{Occurrence, unfolded, occurrences, module_up, inst_up}
+use Rattle.flatten_rules.specs.Unfolding.{Occurrence, unfolded, occurrences, module_up}
 use Rattle.flatten_rules.specs.Limits.{WalksAreShort}
 use Rattle.flatten_rules.specs.Sound.{IsSound}
 use Rattle.flatten_rules.specs.Walk.{id_up, Unfolds, EachWalkOnce}
 use Rattle.flatten_rules.proofs.Sound.{All-find}
-use Rattle.flatten_rules.proofs.Walks.{find-own, find-passes, id-of_found, some-there, same-some, and_then-some}
+use Rattle.flatten_rules.proofs.Walks.{find-own, find-passes, id-of_found, and_then-some}
 
 -- Lists that are joined: what they have, and that it differs.
 

@@ -1,5 +1,5 @@
 -- What the unfolding holds, said by walks: which path leads to which module. This project's own.
-use Rattle.std.specs.Prelude.{◌≡◌, ◌≢◌, ◌↔◌, ℕ, ◌≤◌, List, [], ◌∷◌, reverse, length, Option, Some, None, option_map, All, AllPairs, Contains}
+use Rattle.std.specs.Prelude.{◌≡◌, ◌≢◌, ◌↔◌, ◌≤◌, List, [], ◌∷◌, reverse, length, Option, Some, option_map, AllPairs, Contains}
 use Rattle.emh_base.specs.declared.ids.ModId.{ModId}
 use Rattle.emh_base.specs.declared.ids.InstId.{InstId}
 use Rattle.emh_base.specs.declared.plain.PInst.{PInst}

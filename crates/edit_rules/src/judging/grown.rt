@@ -9,7 +9,7 @@ ghost use Rattle.edit_rules.specs.Limits.{is_too_deep, has_too_many_occurrences,
 ghost use Rattle.edit_rules.specs.Readers.{is_module};
 ghost use Rattle.edit_rules.specs.Facts.{inst_after};
 
-use super::outline::{grown_outline, outline};
+use super::outline::grown_outline;
 use crate::depth::is_too_deep;
 use crate::facts::Facts;
 use crate::limits::{has_too_many_bits, has_too_many_occurrences, leads_to};
@@ -54,11 +54,10 @@ pub fn limits_with<F: Facts>(
             too_many_bits: false,
         });
     }
-    let plain = outline(alloc, facts, name)?;
     let made = grown_outline(alloc, facts, name, id, master)?;
     let top = top_of(facts, &made);
     Ok(Above {
-        recursive: leads_to(&plain, master, id)?,
+        recursive: leads_to(&made, master, id)?,
         too_deep: is_too_deep(&made)?,
         too_many_occurrences: has_too_many_occurrences(&made, top)?,
         too_many_bits: has_too_many_bits(&made, top)?,

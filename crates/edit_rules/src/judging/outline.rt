@@ -3,31 +3,15 @@ ghost use Rattle.flatten_rules.specs.Lookup.{module_of, insts_of};
 ghost use Rattle.flatten_rules.specs.Sound.{IsSound};
 ghost use Rattle.edit_rules.specs.Readers.{is_module, nets_of};
 ghost use Rattle.edit_rules.specs.Insts.{with_inst_alone};
-ghost use Rattle.edit_rules.specs.Outline.{bare_inst, bare_net, bare, outline, grown, grown_outline};
+ghost use Rattle.edit_rules.specs.Outline.{bare_inst, bare_net, bare, grown, grown_outline};
 
 use super::common::master_of;
 use crate::facts::Facts;
 use emh_base::{InstId, List, ModId, Name, NoMemory, PInst, PModule, PNet, Plain, TryCopy};
 use std::alloc::Global;
 
-/// The outline of the table that is read: its modules with their nets and the masters of their instances, under one name.
-pub fn outline<F: Facts>(alloc: Global, facts: &F, name: &Name) -> Result<Plain, NoMemory>
-    requires { IsSound (F.state facts.now).plain }
-    ensures { IfOk result (λ made. made ≡ outline name.now (F.state facts.now).plain) }
-{
-    let mut modules = List::new(alloc);
-    let mut next = facts.module_after(None);
-    while let Some(id) = next {
-        modules.push(bare(alloc, facts, id, name)?)?;
-        next = facts.module_after(Some(id));
-    }
-    Ok(Plain {
-        modules,
-        next_module: 0,
-    })
-}
-
-/// The outline with an instance of a master more in a module.
+/// The outline of the table that is read, with an instance of a master more in a module: its modules with their nets and
+/// the masters of their instances, under one name.
 pub fn grown_outline<F: Facts>(
     alloc: Global,
     facts: &F,

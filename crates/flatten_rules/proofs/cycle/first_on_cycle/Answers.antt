@@ -1,4 +1,4 @@
-use Rattle.std.proofs.Common.{ℕ, List, Option, IfOk, sym, ◌∙◌, subst}
+use Rattle.std.proofs.Common.{ℕ, List, IfOk, sym, ◌∙◌, subst}
 use Rattle.std.proofs.lemmas.Result.{IfOk-weaker}
 use Rattle.flatten_rules.specs.Graph.{IsGraph, IsFirstReturning, graph_of}
 use Rattle.flatten_rules.specs.Cycle.{IsFirstOnCycle}

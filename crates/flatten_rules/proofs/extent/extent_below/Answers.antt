@@ -1,8 +1,8 @@
-use Rattle.std.proofs.Common.{◌≡◌, ◌<◌, ◌≤◌, ℕ, length, get_or, take, sym, ap, ◌∙◌, subst, arith, rules, List}
+use Rattle.std.proofs.Common.{◌<◌, ◌≤◌, length, get_or, ap, subst, arith, rules, List}
 use Rattle.std.proofs.lemmas.List.{take_all}
 use Rattle.emh_base.specs.declared.plain.PInst.{PInst}
 use Rattle.flatten_rules.specs.Graph.{places_of}
-use Rattle.flatten_rules.specs.Extent.{IsExtentOf, AreExtents, with_instance}
+use Rattle.flatten_rules.specs.Extent.{IsExtentOf}
 use Rattle.flatten_rules.proofs.Extents.{places-many, places-within, below-more}
 use Rattle.flatten_rules.proofs.extent.extent_below.Goals as goal
 

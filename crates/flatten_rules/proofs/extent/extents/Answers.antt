@@ -1,4 +1,4 @@
-use Rattle.std.proofs.Common.{ℕ, ◌+◌, ◌-◌, ◌≡◌, List, subst, ap, sym, ◌∙◌, arith}
+use Rattle.std.proofs.Common.{ℕ, ◌+◌, ◌-◌, ◌≡◌, List, subst, sym, ◌∙◌, arith}
 use Rattle.flatten_rules.specs.declared.extent.Extent.{Extent}
 use Rattle.flatten_rules.specs.Extent.{AreExtents}
 use Rattle.flatten_rules.proofs.Extents.{stable}

@@ -1,4 +1,4 @@
-use Rattle.std.proofs.Common.{◌<◌, ◌∙◌, length, get_or, List, ap, subst, arith}
+use Rattle.std.proofs.Common.{◌<◌, ◌∙◌, length, get_or, List, ap, arith}
 use Rattle.emh_base.specs.declared.plain.PModule.{PModule}
 use Rattle.flatten_rules.proofs.Extents.{extent-zero, first-more, first-all}
 use Rattle.flatten_rules.proofs.extent.no_levels.Goals as goal

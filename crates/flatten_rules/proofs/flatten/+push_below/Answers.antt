@@ -1,4 +1,4 @@
-use Rattle.std.proofs.Common.{◌<◌, ◌++◌, List, map, append-nil, sym, ap, ◌∙◌, arith}
+use Rattle.std.proofs.Common.{◌++◌, map, append-nil, sym, ap, ◌∙◌, arith}
 use Rattle.flatten_rules.specs.Fresh.{fresh_occ}
 use Rattle.flatten_rules.specs.Unfolding.{unfolded}
 use Rattle.flatten_rules.proofs.Unfolded.{unfolded-zero}

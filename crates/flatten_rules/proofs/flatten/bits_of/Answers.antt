@@ -1,4 +1,4 @@
-use Rattle.std.proofs.Common.{◌≡◌, ◌++◌, [], List, append-nil, map, sym, ap, ◌∙◌}
+use Rattle.std.proofs.Common.{◌++◌, [], append-nil, map, sym, ap, ◌∙◌}
 use Rattle.flatten_rules.specs.Lookup.{module_of}
 use Rattle.flatten_rules.specs.Unfolding.{Occurrence, occurrences}
 use Rattle.flatten_rules.specs.Domains.{bits_inside}

@@ -1,6 +1,6 @@
-use Rattle.std.proofs.Common.{◌≡◌, ◌≤◌, ◌++◌, [], append-nil, map, flat_map, length, sym, ap, ◌∙◌, arith}
+use Rattle.std.proofs.Common.{◌≤◌, ◌++◌, [], append-nil, map, flat_map, length, sym, ap, ◌∙◌, arith}
 use Rattle.std.proofs.lemmas.List.{take_all, length-map}
-use Rattle.flatten_rules.specs.Unfolding.{Occurrence, occurrences}
+use Rattle.flatten_rules.specs.Unfolding.{occurrences}
 use Rattle.flatten_rules.specs.Fresh.{occ_of, fresh_occ, fresh_pin, pins_inside}
 use Rattle.flatten_rules.proofs.Flattening.{occ-at, parts-more, pins-absent, pins-all}
 use Rattle.flatten_rules.proofs.flatten.pins_of.Goals as goal

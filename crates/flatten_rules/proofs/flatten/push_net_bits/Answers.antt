@@ -1,4 +1,4 @@
-use Rattle.std.proofs.Common.{◌≡◌, reverse, ap, ◌∙◌, refl}
+use Rattle.std.proofs.Common.{◌≡◌, reverse, ap, ◌∙◌}
 use Rattle.flatten_rules.specs.Root.{root_up}
 use Rattle.flatten_rules.specs.Fresh.{fresh_bit}
 use Rattle.flatten_rules.proofs.Flattening.{net_bit, ranged-more}

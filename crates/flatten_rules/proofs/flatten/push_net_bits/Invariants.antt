@@ -1,7 +1,6 @@
 -- The bits so far stand last.
 use Rattle.std.proofs.Common.{◌≡◌, ◌++◌, map}
 use Rattle.std.specs.List.{range_with_len}
-use Rattle.flatten_rules.specs.Domains.{NetBit}
 use Rattle.flatten_rules.specs.Fresh.{fresh_bit}
 use Rattle.flatten_rules.proofs.Flattening.{net_bit}
 use Rattle.flatten_rules.proofs.flatten.push_net_bits.Given as goal

@@ -1,4 +1,4 @@
-use Rattle.std.proofs.Common.{◌≡◌, ◌<◌, ◌≤◌, ◌+◌, ◌∙◌, ap, sym, List, length, min, refl, arith, rules}
+use Rattle.std.proofs.Common.{◌≡◌, ◌∙◌, ap, sym, List, length, refl, arith, rules}
 use Rattle.std.proofs.lemmas.Bool.{false≢true}
 use Rattle.std.proofs.lemmas.List.{length_push}
 use Rattle.std.proofs.lemmas.Slice.Zip.{zip_turn, zip_end}
@@ -6,7 +6,7 @@ use Rattle.std.specs.Slice.Iter.{iter_rest}
 use Rattle.std.specs.Iterator.Adapters.{zip_first, zip_second}
 use Rattle.emh_base.specs.declared.plain.PPort.{PPort}
 use Rattle.emh_base.specs.declared.plain.Conn.{Conn}
-use Rattle.flatten_rules.proofs.Checking.{FitEach, fit-length, fit-misfit, fit-each_more, fit-from_each}
+use Rattle.flatten_rules.proofs.Checking.{fit-length, fit-misfit, fit-each_more, fit-from_each}
 use Rattle.flatten_rules.proofs.master.fit_ports.Goals as goal
 
 pub returns-then-ports-conns : goal.returns-then-ports-conns

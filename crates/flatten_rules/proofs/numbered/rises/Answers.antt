@@ -1,4 +1,4 @@
-use Rattle.std.proofs.Common.{◌≤◌, ◌<◌, ◌∙◌, IsTrue, ap, sym, get_or, arith}
+use Rattle.std.proofs.Common.{◌≤◌, ◌<◌, ◌∙◌, ap, get_or, arith}
 use Rattle.std.proofs.lemmas.Bool.{leb-true, le-leb, false≢true}
 use Rattle.flatten_rules.proofs.Rising.{rises-more, rises-not, rises-all}
 use Rattle.flatten_rules.proofs.numbered.rises.Goals as goal

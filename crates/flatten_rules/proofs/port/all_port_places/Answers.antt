@@ -1,6 +1,5 @@
-use Rattle.std.proofs.Common.{◌<◌, ◌∙◌, length, get_or, List, ap, subst, sym, arith}
+use Rattle.std.proofs.Common.{◌<◌, ◌∙◌, length, get_or, List, ap, arith}
 use Rattle.emh_base.specs.declared.plain.PModule.{PModule}
-use Rattle.flatten_rules.specs.Checks.{ArePortPlaces}
 use Rattle.flatten_rules.proofs.Checking.{first_places-more}
 use Rattle.flatten_rules.proofs.port.all_port_places.Goals as goal
 

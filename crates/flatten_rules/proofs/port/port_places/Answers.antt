@@ -1,10 +1,10 @@
-use Rattle.std.proofs.Common.{◌≡◌, ◌<◌, ◌≤◌, ◌==◌, ◌∙◌, ℕ, Option, List, None, Some, length, is_some, position, get_or, take, ap, sym, refl, arith}
+use Rattle.std.proofs.Common.{◌≡◌, ◌<◌, ◌≤◌, ◌==◌, ◌∙◌, ℕ, Option, List, None, Some, length, position, get_or, take, ap, sym, refl, arith}
 use Rattle.std.proofs.lemmas.Bool.{false≢true}
 use Rattle.std.proofs.lemmas.List.{get_or_default, get_or_read, take_all}
 use Rattle.emh_base.specs.declared.plain.Dir.TheVariants.{Input}
 use Rattle.emh_base.specs.declared.plain.PNet.{PNet}
 use Rattle.emh_base.specs.declared.plain.PPort.{PPort}
-use Rattle.flatten_rules.proofs.Checking.{Placed, no-net, net-taken, placed-more, placed-own, placed-all}
+use Rattle.flatten_rules.proofs.Checking.{no-net, net-taken, placed-more, placed-own, placed-all}
 use Rattle.flatten_rules.proofs.Places.{position-within}
 use Rattle.flatten_rules.proofs.Walks.{some-there, none-there}
 use Rattle.flatten_rules.proofs.port.port_places.Goals as goal

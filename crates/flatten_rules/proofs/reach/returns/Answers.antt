@@ -1,6 +1,6 @@
-use Rattle.std.proofs.Common.{◌≡◌, ◌≤◌, length, List, [], ◌∙◌, ap, sym, IsTrue, ◌↔◌, arith}
+use Rattle.std.proofs.Common.{◌≡◌, ◌≤◌, length, [], ◌∙◌, ap, sym, arith}
 use Rattle.std.proofs.lemmas.List.{get_or_default}
-use Rattle.flatten_rules.specs.Graph.{next, Reaches}
+use Rattle.flatten_rules.specs.Graph.{next}
 use Rattle.flatten_rules.proofs.Following.{marked-few, get-none_past, followed-first, followed-more, followed-all}
 use Rattle.flatten_rules.proofs.reach.returns.Goals as goal
 use Rattle.flatten_rules.proofs.reach.returns.Goals.{else-loop-at-test, then-loop-at-test+in-None}

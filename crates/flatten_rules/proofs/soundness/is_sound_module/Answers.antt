@@ -1,5 +1,4 @@
-use Rattle.std.proofs.Common.{IsTrue, ◌↔◌, IfSome, IsSome, refl}
-use Rattle.flatten_rules.specs.Sound.{IsCell}
+use Rattle.std.proofs.Common.{refl}
 use Rattle.flatten_rules.specs.Checks.{HasPorts}
 use Rattle.flatten_rules.proofs.soundness.is_sound_module.Goals as goal
 

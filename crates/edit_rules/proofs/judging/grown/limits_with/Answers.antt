@@ -16,8 +16,8 @@ use Rattle.edit_rules.specs.Facts.{totals, times, inst_after}
 use Rattle.edit_rules.specs.Outline.{outline, grown_outline}
 use Rattle.edit_rules.proofs.OrderLemmas.{rise_changed}
 use Rattle.edit_rules.proofs.OutlineLemmas.{grown-changed, grown-ids}
-use Rattle.edit_rules.proofs.AlikeLemmas.{outline-rise, outline-alike, grown-alike, deep-alike, occurrences-alike, bits-alike, leads-alike}
-use Rattle.edit_rules.proofs.LeafLemmas.{leads-with, deep-with, occurrences-with, bits-with}
+use Rattle.edit_rules.proofs.AlikeLemmas.{outline-rise, grown-alike, deep-alike, occurrences-alike, bits-alike, leads-alike}
+use Rattle.edit_rules.proofs.LeafLemmas.{grown-leads, leads-with, deep-with, occurrences-with, bits-with}
 use Rattle.edit_rules.proofs.judging.grown.limits_with.Goals as goal
 
 abbrev Rise : Plain → Type 0
@@ -74,13 +74,16 @@ returns-clause-bits g c =
 
 pub leads_to-requires : goal.leads_to-requires
 leads_to-requires g c =
-    subst Rise (sym c.in_ok-plain.ensures) (outline-rise c.args.name.now (g.F.Facts.state c.args.facts.now).plain c.requires.good.table.sound.rise)
+    rise-made (g.F.Facts.state c.args.facts.now).plain c.in_ok-made.made c.args.name.now c.args.id c.args.master c.requires.good.table.sound c.in_ok-made.ensures
 
 pub returns-clause-recursive : goal.returns-clause-recursive
 returns-clause-recursive g c =
-    let M = (g.F.Facts.state c.args.facts.now).plain in
-    c.in_ok-leads_to.ensures ∙ ap (λ p. leads_to p c.args.master c.args.id) c.in_ok-plain.ensures
-    ∙ leads-alike (outline c.args.name.now M) M (outline-alike c.args.name.now M) c.args.master c.args.id
+    let S = g.F.Facts.state c.args.facts.now in
+    let M = S.plain in
+    let name = c.args.name.now in
+    c.in_ok-leads_to.ensures ∙ ap (λ p. leads_to p c.args.master c.args.id) (c.in_ok-made.ensures ∙ grown-changed M name c.args.id c.args.master)
+    ∙ leads-alike (changed name c.args.id c.args.master M) (create_inst M c.args.id name c.args.master) (grown-alike name M c.args.id name c.args.master _ _) c.args.master c.args.id
+    ∙ grown-leads S c.args.id c.args.master name c.args.master
 
 -- a leaf in a module that has an instance
 
@@ -97,16 +100,16 @@ module _ (S : State) (good : IsGoodState S) (id master : ModId) (name : List ℕ
   full = (both (is_leaf (module_of S.plain master)) (is_some (inst_after S id None)) adds).1
 
   recursive : false ≡ leads_to S.plain master id
-  recursive = sym (leads-with S good id master name live inner cell full)
+  recursive = sym (leads-with S id master name good live inner cell full)
 
   deep : false ≡ is_too_deep (create_inst S.plain id name master)
-  deep = sym (deep-with S good id master name live inner cell full)
+  deep = sym (deep-with S id master name good live inner cell full)
 
   occurrences : nat_lt 1000000 ((totals S).occurrences + times S id) ≡ has_too_many_occurrences (create_inst S.plain id name master) S.top
-  occurrences = occurrences-with S good id master name live inner cell full
+  occurrences = occurrences-with S id master name good live inner cell full
 
   bits : false ≡ has_too_many_bits (create_inst S.plain id name master) S.top
-  bits = sym (bits-with S good id master name live inner cell full)
+  bits = sym (bits-with S id master name good live inner cell full)
 
 pub returns-then-adds_leaves-clause-recursive : goal.returns-then-adds_leaves-clause-recursive
 returns-then-adds_leaves-clause-recursive g c =
