@@ -1,8 +1,8 @@
 -- Names with values: what is found after one more, and where.
-use Rattle.std.proofs.Common.{arith, ◌≡◌, ℕ, suc, ◌+◌, ◌-◌, ◌<◌, ◌≤◌, [], ◌∷◌, ◌++◌, None, Some, Option, Bool, true, false, List, Bor, take, length, slice_get, is_some, is_eq, unwrap_or, refl, sym, ◌∙◌, ap, cond, append_assoc}
+use Rattle.std.proofs.Common.{arith, ◌≡◌, ℕ, suc, ◌+◌, ◌-◌, ◌<◌, ◌≤◌, [], ◌∷◌, ◌++◌, None, Some, Option, Bool, true, false, List, Bor, take, length, slice_get, is_some, is_eq, get_or, unwrap_or, refl, sym, ◌∙◌, ap, cond, append_assoc}
 use Rattle.std.specs.BTreeMap.{BTreeMap, get_by}
 use Rattle.std.specs.Cmp.Lexicographic.{slice_cmp}
-use Rattle.std.specs.List.{position_from}
+use Rattle.std.specs.List.{position, position_from}
 use Rattle.std.specs.Option.{option_map}
 use Rattle.std.proofs.Common.{nat_cmp}
 use Rattle.std.specs.Map.{lookup}
@@ -11,14 +11,15 @@ use Rattle.std.proofs.lemmas.Slice.Eq.{bytes_eq-Decides}
 use Rattle.std.proofs.lemmas.Grind.{common_steps}
 use Rattle.std.specs.Prelude.{◌||◌, not, if◌then◌else◌}
 use Rattle.std.proofs.Math.Bool.{or_assoc}
-use Rattle.std.proofs.lemmas.List.{length-map, append-nil}
+use Rattle.std.proofs.lemmas.List.{length-map, append-nil, take_more}
+use Rattle.std.proofs.lemmas.Iterator.Adapters.{position_from-zero}
 use Rattle.std.proofs.lemmas.Bool.Decides.{same_from_decides}
 use Rattle.std.specs.Bool.{Decides}
 use Rattle.vlog_elab.specs.Check.{each_after}
 use Rattle.vlog_elab.specs.Named.{place_of, named, is_there, firsts}
 use Rattle.vlog_elab.specs.Walks.{with_new}
 use Rattle.vlog_elab.proofs.Walking.{each_after-append}
-use Rattle.vlog_elab.specs.Agree.{texts, Agrees}
+use Rattle.vlog_elab.specs.Agree.{texts, Agrees, AgreesPastFew}
 
 -- the place of the first that passes, after one more at the end
 pub position_from-push : {X : Type 0} (t : X → Bool) (n : ℕ) (xs : List X) (x : X)
@@ -149,6 +150,29 @@ agrees-push {V} m n es fs k key v place first same old made here says updates = 
     at_o None e =
         let is : first ≡ place = says ∙ ap (λ o. unwrap_or o place) (found ∙ e) in
         agrees-push_first m n es fs k key v place same old (is_there-place 0 k.now (texts es) ∙ ap is_some e) made here (rw is at updates)
+
+-- the map of the first entries grows by the next one
+pub agrees-next : {V : Type 0} (m n : BTreeMap (Bor (List ℕ)) ℕ) (es : List (Bor (List ℕ) × V)) (i : ℕ) (e : Bor (List ℕ) × V) (key : List ℕ) (first : ℕ)
+    → i < length es → e ≡ get_or es i e → key ≡ (get_or es i e).0.now → Agrees m (take i es)
+    → first ≡ unwrap_or (get_by (λ y. slice_cmp nat_cmp key y.now) m) i
+    → ((q : List ℕ) → get_by (λ k. slice_cmp nat_cmp q k.now) n ≡ cond (bytes_eq key q) (Some first) (get_by (λ k. slice_cmp nat_cmp q k.now) m)) → Agrees n (take (i + 1) es)
+agrees-next {V} m n es i e key first within is same old says updates =
+    let named : key ≡ e.0.now = same ∙ ap (λ (e : Bor (List ℕ) × V). e.0.now) (sym is) in
+    let more : take (i + 1) es ≡ take i es ++ (e.0, e.1) ∷ [] = take_more es i e within ∙ ap (λ e. take i es ++ e ∷ []) (sym is) in
+    let here : i ≡ length (take i es) = grind (arith, common_steps) in
+    agrees-push m n (take i es) (take (i + 1) es) e.0 key e.1 i first named old more here says updates
+
+-- few entries need no map
+pub agrees-few : {V : Type 0} (m : BTreeMap (Bor (List ℕ)) ℕ) (es : List (Bor (List ℕ) × V)) → length es ≤ 8 → AgreesPastFew m es
+agrees-few m es few = λ many. absurd (omega (arith, few, many))
+
+-- looking through the entries
+place-texts : {V : Type 0} (n : ℕ) (q : List ℕ) (es : List (Bor (List ℕ) × V)) → position_from (λ e. bytes_eq q e.0.now) n es ≡ position_from (λ e. bytes_eq q e.0) n (texts es)
+place-texts n q [] = refl
+place-texts n q (e ∷ es) = elim (bytes_eq q e.0.now) as (λ b. cond b (Some n) (position_from (λ e. bytes_eq q e.0.now) (n + 1) es) ≡ cond b (Some n) (position_from (λ e. bytes_eq q e.0) (n + 1) (texts es))) [ true ↦ refl | false ↦ place-texts (n + 1) q es ]
+
+pub position-place : {V : Type 0} (q : List ℕ) (es : List (Bor (List ℕ) × V)) → position (λ e. bytes_eq q e.0.now) es ≡ place_of (texts es) q
+position-place q es = position_from-zero (λ e. bytes_eq q e.0.now) es ∙ place-texts 0 q es
 
 -- a map with the same entries
 pub agrees-unchanged : {V : Type 0} (m n : BTreeMap (Bor (List ℕ)) ℕ) (es : List (Bor (List ℕ) × V)) → Agrees m es → n.entries ≡ m.entries → Agrees n es

@@ -1,4 +1,4 @@
-use Rattle.std.specs.Prelude.{◌≡◌, ℕ, List, map}
+use Rattle.std.specs.Prelude.{◌≡◌, ◌<◌, ℕ, List, map, length}
 use Rattle.std.specs.Borrow.{Bor}
 use Rattle.std.specs.BTreeMap.{BTreeMap, get_by}
 use Rattle.std.specs.Cmp.Lexicographic.{slice_cmp}
@@ -12,3 +12,7 @@ texts entries = map (λ e. (e.0.now, e.1)) entries
 -- the map has for each name the place of the first entry of that name
 abbrev pub Agrees : {V : Type 0} → BTreeMap (Bor (List ℕ)) ℕ → List (Bor (List ℕ) × V) → Type 0
 Agrees places entries = (q : List ℕ) → get_by (λ k. slice_cmp nat_cmp q k.now) places ≡ place_of (texts entries) q
+
+-- a map is kept only for more than a few entries
+abbrev pub AgreesPastFew : {V : Type 0} → BTreeMap (Bor (List ℕ)) ℕ → List (Bor (List ℕ) × V) → Type 0
+AgreesPastFew places entries = 8 < length entries → Agrees places entries

@@ -1,8 +1,10 @@
 ghost use Rattle.std.specs.Prelude.{◌≡◌, ℕ, List, [], ◌∷◌, ◌++◌, not, if◌then◌else◌, length, slice_get, bytes_eq, Some, unwrap_or, IfOk, OnOk, OnErr};
+ghost use Rattle.std.specs.List.{position};
 ghost use Rattle.std.specs.Option.{option_copied, option_map};
 ghost use Rattle.std.specs.Cmp.Lexicographic.{slice_cmp};
 ghost use Rattle.std.specs.Ordering.{nat_cmp};
 ghost use Rattle.std.specs.BTreeMap.{get_by, IsUnchanged};
+ghost use Rattle.vlog_elab.specs.Agree.{Agrees, AgreesPastFew};
 ghost use Rattle.vlog_elab.specs.Named.{named, place_of, is_there};
 ghost use Rattle.vlog_elab.specs.Walks.{with_new};
 
@@ -11,7 +13,11 @@ use std::alloc::Global;
 use std::collections::BTreeMap;
 use std::marker::Model;
 
+/// Up to so many entries are found by looking through them, without a map, which would take memory for each instance.
+const FEW: usize = 8;
+
 /// Names, each with a value, in the order in which they were added. The first of a name is found, in logarithmic time.
+/// The map of places is kept where there are more than `FEW` entries.
 #[derive(Drop)]
 pub struct Names<'a, V> {
     places: BTreeMap<&'a [u8], usize>,
@@ -21,7 +27,7 @@ pub struct Names<'a, V> {
 impl<'a, V> Model for Names<'a, V> {
     ghost use Rattle.std.specs.Prelude.{List, ℕ};
     ghost use Rattle.std.specs.Coded.{coded_list, coded_ℕ, coded×};
-    ghost use Rattle.vlog_elab.specs.Agree.{texts, Agrees};
+    ghost use Rattle.vlog_elab.specs.Agree.{texts, AgreesPastFew};
 
     ghost Value = { List (List ℕ × V) };
 
@@ -29,7 +35,7 @@ impl<'a, V> Model for Names<'a, V> {
 
     ghost view = { λ names. texts names.entries.items };
 
-    ghost invariant = { λ names. Agrees names.places names.entries.items };
+    ghost invariant = { λ names. AgreesPastFew names.places names.entries.items };
 }
 
 impl<'a, V: Drop> Names<'a, V> {
@@ -54,6 +60,9 @@ impl<'a, V: Drop> Names<'a, V> {
     pub fn find(&self, name: &Name) -> Option<usize>
         ensures { result ≡ place_of self.now name.now }
     {
+        if self.entries.len() <= FEW {
+            return first_of(self.entries.as_slice(), name.as_bytes());
+        }
         self.places.get(name.as_bytes()).copied()
     }
 
@@ -99,6 +108,11 @@ impl<'a, V: Drop> Names<'a, V> {
         ensures err { OnErr result (self.new ≡ self.old) }
     {
         let place = self.entries.len();
+        if place < FEW {
+            self.entries.push((name, value))?;
+            return Ok(());
+        }
+        place_few(&mut self.places, &self.entries)?;
         self.entries.push((name, value))?;
         match place_in(&mut self.places, name.as_bytes(), place) {
             Ok(_) => Ok(()),
@@ -116,6 +130,13 @@ impl<'a, V: Drop> Names<'a, V> {
         ensures err { OnErr result (self.new ≡ self.old) }
     {
         let place = self.entries.len();
+        if place <= FEW {
+            if self.contains(name) {
+                return Ok(false);
+            }
+            self.push(name, value)?;
+            return Ok(true);
+        }
         self.entries.push((name, value))?;
         match place_in(&mut self.places, name.as_bytes(), place) {
             Ok(first) => {
@@ -131,6 +152,41 @@ impl<'a, V: Drop> Names<'a, V> {
             }
         }
     }
+}
+
+/// The place of the first entry of that name, found by looking through them.
+fn first_of<V>(entries: &[(&Name, V)], name: &[u8]) -> Option<usize>
+    ensures { result ≡ position (λ entry. bytes_eq name.now entry.0.now) entries.now }
+{
+    entries.iter().position(|entry| name == entry.0.as_bytes())
+}
+
+/// Makes the map of these entries where there are few of them, for which none was kept.
+fn place_few<'a, V>(
+    places: &mut BTreeMap<&'a [u8], usize>,
+    entries: &Vec<(&'a Name, V)>,
+) -> Result<(), NoMemory>
+    ensures ok { OnOk result (AgreesPastFew places.old entries.now.items → Agrees places.new entries.now.items) }
+    ensures err { OnErr result (IsUnchanged places.old places.new) }
+{
+    if entries.len() <= FEW {
+        *places = places_of(*entries.allocator(), entries.as_slice())?;
+    }
+    Ok(())
+}
+
+/// The map of the places of these entries.
+fn places_of<'a, V>(
+    alloc: Global,
+    entries: &[(&'a Name, V)],
+) -> Result<BTreeMap<&'a [u8], usize>, NoMemory>
+    ensures { IfOk result (λ places. Agrees places entries.now) }
+{
+    let mut places = BTreeMap::new(alloc);
+    for place in 0..entries.len() {
+        place_in(&mut places, entries[place].0.as_bytes(), place)?;
+    }
+    Ok(places)
 }
 
 /// The place that a name has in a map, or else this one, which it gets.

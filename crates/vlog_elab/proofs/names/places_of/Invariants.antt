@@ -1,0 +1,6 @@
+use Rattle.std.proofs.Common.{take}
+use Rattle.vlog_elab.specs.Agree.{Agrees}
+use Rattle.vlog_elab.proofs.names.places_of.Given as goal
+
+abbrev pub invariant-loop-place : goal.invariant-loop-place
+invariant-loop-place g l = Agrees l.places (take l.place l.entries)
