@@ -1,16 +1,14 @@
 ghost use Rattle.std.specs.Prelude.{◌≡◌, ℕ, List, [], ◌∷◌, ◌++◌, not, if◌then◌else◌, length, slice_get, bytes_eq, Some, unwrap_or, IfOk, OnOk, OnErr};
 ghost use Rattle.std.specs.List.{position};
 ghost use Rattle.std.specs.Option.{option_copied, option_map};
-ghost use Rattle.std.specs.Cmp.Lexicographic.{slice_cmp};
-ghost use Rattle.std.specs.Ordering.{nat_cmp};
-ghost use Rattle.std.specs.BTreeMap.{get_by, IsUnchanged};
 ghost use Rattle.vlog_elab.specs.Agree.{Agrees, AgreesPastFew};
 ghost use Rattle.vlog_elab.specs.Named.{named, place_of, is_there};
+ghost use Rattle.vlog_elab.specs.Placed.{place_at};
 ghost use Rattle.vlog_elab.specs.Walks.{with_new};
 
+use crate::places::Places;
 use emh_base::{Name, NoMemory};
 use std::alloc::Global;
-use std::collections::BTreeMap;
 use std::marker::Model;
 
 /// Up to so many entries are found by looking through them, without a map, which would take memory for each instance.
@@ -20,7 +18,7 @@ const FEW: usize = 8;
 /// The map of places is kept where there are more than `FEW` entries.
 #[derive(Drop)]
 pub struct Names<'a, V> {
-    places: BTreeMap<&'a [u8], usize>,
+    places: Places<'a>,
     entries: Vec<(&'a Name, V)>,
 }
 
@@ -44,7 +42,7 @@ impl<'a, V: Drop> Names<'a, V> {
         ensures { result ≡ [] }
     {
         Names {
-            places: BTreeMap::new(alloc),
+            places: Places::new(alloc),
             entries: Vec::new(alloc),
         }
     }
@@ -63,7 +61,7 @@ impl<'a, V: Drop> Names<'a, V> {
         if self.entries.len() <= FEW {
             return first_of(self.entries.as_slice(), name.as_bytes());
         }
-        self.places.get(name.as_bytes()).copied()
+        self.places.get(name.as_bytes())
     }
 
     pub fn contains(&self, name: &Name) -> bool
@@ -114,7 +112,7 @@ impl<'a, V: Drop> Names<'a, V> {
         }
         place_few(&mut self.places, &self.entries)?;
         self.entries.push((name, value))?;
-        match place_in(&mut self.places, name.as_bytes(), place) {
+        match self.places.get_or_insert(name.as_bytes(), place) {
             Ok(_) => Ok(()),
             Err(_) => {
                 self.entries.pop();
@@ -138,7 +136,7 @@ impl<'a, V: Drop> Names<'a, V> {
             return Ok(true);
         }
         self.entries.push((name, value))?;
-        match place_in(&mut self.places, name.as_bytes(), place) {
+        match self.places.get_or_insert(name.as_bytes(), place) {
             Ok(first) => {
                 if first == place {
                     return Ok(true);
@@ -162,12 +160,9 @@ fn first_of<V>(entries: &[(&Name, V)], name: &[u8]) -> Option<usize>
 }
 
 /// Makes the map of these entries where there are few of them, for which none was kept.
-fn place_few<'a, V>(
-    places: &mut BTreeMap<&'a [u8], usize>,
-    entries: &Vec<(&'a Name, V)>,
-) -> Result<(), NoMemory>
-    ensures ok { OnOk result (AgreesPastFew places.old entries.now.items → Agrees places.new entries.now.items) }
-    ensures err { OnErr result (IsUnchanged places.old places.new) }
+fn place_few<'a, V>(places: &mut Places<'a>, entries: &Vec<(&'a Name, V)>) -> Result<(), NoMemory>
+    ensures ok { OnOk result (AgreesPastFew places.old entries.now.items → Agrees (place_at places.new.by_number places.new.by_name) entries.now.items) }
+    ensures err { OnErr result (AgreesPastFew places.old entries.now.items → AgreesPastFew places.new entries.now.items) }
 {
     if entries.len() <= FEW {
         *places = places_of(*entries.allocator(), entries.as_slice())?;
@@ -176,32 +171,12 @@ fn place_few<'a, V>(
 }
 
 /// The map of the places of these entries.
-fn places_of<'a, V>(
-    alloc: Global,
-    entries: &[(&'a Name, V)],
-) -> Result<BTreeMap<&'a [u8], usize>, NoMemory>
-    ensures { IfOk result (λ places. Agrees places entries.now) }
+fn places_of<'a, V>(alloc: Global, entries: &[(&'a Name, V)]) -> Result<Places<'a>, NoMemory>
+    ensures { IfOk result (λ places. Agrees (place_at places.by_number places.by_name) entries.now) }
 {
-    let mut places = BTreeMap::new(alloc);
+    let mut places = Places::new(alloc);
     for place in 0..entries.len() {
-        place_in(&mut places, entries[place].0.as_bytes(), place)?;
+        places.get_or_insert(entries[place].0.as_bytes(), place)?;
     }
     Ok(places)
-}
-
-/// The place that a name has in a map, or else this one, which it gets.
-fn place_in<'a>(
-    places: &mut BTreeMap<&'a [u8], usize>,
-    name: &'a [u8],
-    place: usize,
-) -> Result<usize, NoMemory>
-    ensures first { IfOk result (λ first. first ≡ unwrap_or (get_by (λ k. slice_cmp nat_cmp name.now k.now) places.old) place) }
-    ensures ok { IfOk result (λ first. (q : List ℕ) → get_by (λ k. slice_cmp nat_cmp q k.now) places.new
-        ≡ (if bytes_eq name.now q then Some first else get_by (λ k. slice_cmp nat_cmp q k.now) places.old)) }
-    ensures err { OnErr result (IsUnchanged places.old places.new) }
-{
-    match places.entry(name) {
-        Ok(entry) => Ok(*entry.or_insert(place)),
-        Err(_) => Err(NoMemory),
-    }
 }
