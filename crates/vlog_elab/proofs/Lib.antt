@@ -22,3 +22,4 @@ pub mod Connected
 pub mod Row
 pub mod Staying
 pub mod OneAnswer
+mod Placing

@@ -1,17 +1,15 @@
 -- Names with values: what is found after one more, and where.
-use Rattle.std.proofs.Common.{arith, ◌≡◌, ℕ, suc, ◌+◌, ◌-◌, ◌<◌, ◌≤◌, [], ◌∷◌, ◌++◌, None, Some, Option, Bool, true, false, List, Bor, take, length, slice_get, is_some, is_eq, unwrap_or, refl, sym, ◌∙◌, ap, cond, append_assoc}
-use Rattle.std.specs.BTreeMap.{BTreeMap, get_by}
-use Rattle.std.specs.Cmp.Lexicographic.{slice_cmp}
-use Rattle.std.specs.List.{position_from}
+use Rattle.std.proofs.Common.{arith, ◌≡◌, ℕ, suc, ◌+◌, ◌-◌, ◌<◌, ◌≤◌, [], ◌∷◌, ◌++◌, None, Some, Option, Bool, true, false, List, Bor, take, length, slice_get, is_some, get_or, unwrap_or, refl, sym, ◌∙◌, ap, cond, append_assoc}
+use Rattle.std.specs.List.{position, position_from}
 use Rattle.std.specs.Option.{option_map}
-use Rattle.std.proofs.Common.{nat_cmp}
 use Rattle.std.specs.Map.{lookup}
 use Rattle.std.specs.Str.{bytes_eq}
 use Rattle.std.proofs.lemmas.Slice.Eq.{bytes_eq-Decides}
 use Rattle.std.proofs.lemmas.Grind.{common_steps}
 use Rattle.std.specs.Prelude.{◌||◌, not, if◌then◌else◌}
 use Rattle.std.proofs.Math.Bool.{or_assoc}
-use Rattle.std.proofs.lemmas.List.{length-map, append-nil}
+use Rattle.std.proofs.lemmas.List.{length-map, append-nil, take_more}
+use Rattle.std.proofs.lemmas.Iterator.Adapters.{position_from-zero}
 use Rattle.std.proofs.lemmas.Bool.Decides.{same_from_decides}
 use Rattle.std.specs.Bool.{Decides}
 use Rattle.vlog_elab.specs.Check.{each_after}
@@ -104,16 +102,16 @@ place-push_first {V} es e q fresh = position_from-push (λ (e : List ℕ × V). 
         rw (bytes_eq-sym q e.0, f, none, zero) refl
 
 -- the entries grow at the end by a name that is there
-pub agrees-push_again : {V : Type 0} (m : BTreeMap (Bor (List ℕ)) ℕ) (es fs : List (Bor (List ℕ) × V)) (k : Bor (List ℕ)) (v : V)
+pub agrees-push_again : {V : Type 0} (m : List ℕ → Option ℕ) (es fs : List (Bor (List ℕ) × V)) (k : Bor (List ℕ)) (v : V)
     → Agrees m es → is_there (texts es) k.now ≡ true → fs ≡ es ++ (k, v) ∷ [] → Agrees m fs
 agrees-push_again m es fs k v old there made q =
     let now : texts fs ≡ texts es ++ (k.now, v) ∷ [] = ap texts made ∙ texts-push es (k, v) in
     old q ∙ sym (place-push_again (texts es) (k.now, v) q there) ∙ sym (ap (λ es. place_of es q) now)
 
 -- the entries grow at the end by a new name, whose place goes into the map
-pub agrees-push_first : {V : Type 0} (m n : BTreeMap (Bor (List ℕ)) ℕ) (es fs : List (Bor (List ℕ) × V)) (k : Bor (List ℕ)) (key : List ℕ) (v : V) (place : ℕ)
+pub agrees-push_first : {V : Type 0} (m n : List ℕ → Option ℕ) (es fs : List (Bor (List ℕ) × V)) (k : Bor (List ℕ)) (key : List ℕ) (v : V) (place : ℕ)
     → key ≡ k.now → Agrees m es → is_there (texts es) k.now ≡ false → fs ≡ es ++ (k, v) ∷ [] → place ≡ length es
-    → ((q : List ℕ) → get_by (λ k. slice_cmp nat_cmp q k.now) n ≡ cond (bytes_eq key q) (Some place) (get_by (λ k. slice_cmp nat_cmp q k.now) m)) → Agrees n fs
+    → ((q : List ℕ) → n q ≡ cond (bytes_eq key q) (Some place) (m q)) → Agrees n fs
 agrees-push_first {V} m n es fs k key v place same old fresh made here updates q =
     let now : texts fs ≡ texts es ++ (k.now, v) ∷ [] = ap texts made ∙ texts-push es (k, v) in
     let last : place ≡ length (texts es) = here ∙ sym (simp length-map) in
@@ -122,23 +120,23 @@ agrees-push_first {V} m n es fs k key v place same old fresh made here updates q
     ∙ sym (ap (λ es. place_of es q) now)
 
 -- the map gets the place that it has
-pub agrees-kept : {V : Type 0} (m n : BTreeMap (Bor (List ℕ)) ℕ) (es : List (Bor (List ℕ) × V)) (key : List ℕ) (first : ℕ)
+pub agrees-kept : {V : Type 0} (m n : List ℕ → Option ℕ) (es : List (Bor (List ℕ) × V)) (key : List ℕ) (first : ℕ)
     → Agrees m es → place_of (texts es) key ≡ Some first
-    → ((q : List ℕ) → get_by (λ k. slice_cmp nat_cmp q k.now) n ≡ cond (bytes_eq key q) (Some first) (get_by (λ k. slice_cmp nat_cmp q k.now) m)) → Agrees n es
+    → ((q : List ℕ) → n q ≡ cond (bytes_eq key q) (Some first) (m q)) → Agrees n es
 agrees-kept {V} m n es key first old here updates q = updates q ∙ at_b (bytes_eq key q) refl
   where
-    at_b : (b : Bool) → bytes_eq key q ≡ b → cond b (Some first) (get_by (λ k. slice_cmp nat_cmp q k.now) m) ≡ place_of (texts es) q
+    at_b : (b : Bool) → bytes_eq key q ≡ b → cond b (Some first) (m q) ≡ place_of (texts es) q
     at_b false f = old q
     at_b true f = let same : key ≡ q = same_name key q f in sym here ∙ ap (place_of (texts es)) same
 
 -- the entries grow at the end by a name, whose place goes into the map where it has none
-pub agrees-push : {V : Type 0} (m n : BTreeMap (Bor (List ℕ)) ℕ) (es fs : List (Bor (List ℕ) × V)) (k : Bor (List ℕ)) (key : List ℕ) (v : V) (place first : ℕ)
+pub agrees-push : {V : Type 0} (m n : List ℕ → Option ℕ) (es fs : List (Bor (List ℕ) × V)) (k : Bor (List ℕ)) (key : List ℕ) (v : V) (place first : ℕ)
     → key ≡ k.now → Agrees m es → fs ≡ es ++ (k, v) ∷ [] → place ≡ length es
-    → first ≡ unwrap_or (get_by (λ y. slice_cmp nat_cmp key y.now) m) place
-    → ((q : List ℕ) → get_by (λ k. slice_cmp nat_cmp q k.now) n ≡ cond (bytes_eq key q) (Some first) (get_by (λ k. slice_cmp nat_cmp q k.now) m)) → Agrees n fs
+    → first ≡ unwrap_or (m key) place
+    → ((q : List ℕ) → n q ≡ cond (bytes_eq key q) (Some first) (m q)) → Agrees n fs
 agrees-push {V} m n es fs k key v place first same old made here says updates = at_o (place_of (texts es) k.now) refl
   where
-    found : get_by (λ y. slice_cmp nat_cmp key y.now) m ≡ place_of (texts es) k.now
+    found : m key ≡ place_of (texts es) k.now
     found = old key ∙ ap (place_of (texts es)) same
 
     at_o : (o : Option ℕ) → place_of (texts es) k.now ≡ o → Agrees n fs
@@ -150,9 +148,24 @@ agrees-push {V} m n es fs k key v place first same old made here says updates = 
         let is : first ≡ place = says ∙ ap (λ o. unwrap_or o place) (found ∙ e) in
         agrees-push_first m n es fs k key v place same old (is_there-place 0 k.now (texts es) ∙ ap is_some e) made here (rw is at updates)
 
--- a map with the same entries
-pub agrees-unchanged : {V : Type 0} (m n : BTreeMap (Bor (List ℕ)) ℕ) (es : List (Bor (List ℕ) × V)) → Agrees m es → n.entries ≡ m.entries → Agrees n es
-agrees-unchanged m n es old same q = ap (lookup (λ k. is_eq (slice_cmp nat_cmp q k.now))) same ∙ old q
+-- the map of the first entries grows by the next one
+pub agrees-next : {V : Type 0} (m n : List ℕ → Option ℕ) (es : List (Bor (List ℕ) × V)) (i : ℕ) (e : Bor (List ℕ) × V) (key : List ℕ) (first : ℕ)
+    → i < length es → e ≡ get_or es i e → key ≡ (get_or es i e).0.now → Agrees m (take i es)
+    → first ≡ unwrap_or (m key) i
+    → ((q : List ℕ) → n q ≡ cond (bytes_eq key q) (Some first) (m q)) → Agrees n (take (i + 1) es)
+agrees-next {V} m n es i e key first within is same old says updates =
+    let named : key ≡ e.0.now = same ∙ ap (λ (e : Bor (List ℕ) × V). e.0.now) (sym is) in
+    let more : take (i + 1) es ≡ take i es ++ (e.0, e.1) ∷ [] = take_more es i e within ∙ ap (λ e. take i es ++ e ∷ []) (sym is) in
+    let here : i ≡ length (take i es) = grind (arith, common_steps) in
+    agrees-push m n (take i es) (take (i + 1) es) e.0 key e.1 i first named old more here says updates
+
+-- looking through the entries
+place-texts : {V : Type 0} (n : ℕ) (q : List ℕ) (es : List (Bor (List ℕ) × V)) → position_from (λ e. bytes_eq q e.0.now) n es ≡ position_from (λ e. bytes_eq q e.0) n (texts es)
+place-texts n q [] = refl
+place-texts n q (e ∷ es) = elim (bytes_eq q e.0.now) as (λ b. cond b (Some n) (position_from (λ e. bytes_eq q e.0.now) (n + 1) es) ≡ cond b (Some n) (position_from (λ e. bytes_eq q e.0) (n + 1) (texts es))) [ true ↦ refl | false ↦ place-texts (n + 1) q es ]
+
+pub position-place : {V : Type 0} (q : List ℕ) (es : List (Bor (List ℕ) × V)) → position (λ e. bytes_eq q e.0.now) es ≡ place_of (texts es) q
+position-place q es = position_from-zero (λ e. bytes_eq q e.0.now) es ∙ place-texts 0 q es
 
 -- a new name is pushed
 pub new-pushed : {V : Type 0} (es : List (List ℕ × V)) (e : List ℕ × V) → true ≡ not (is_there es e.0) → with_new es (e ∷ []) ≡ es ++ e ∷ []
@@ -290,13 +303,13 @@ pub old-there : {V : Type 0} (es : List (List ℕ × V)) (q : List ℕ) (first :
 old-there es q first h = is_there-place 0 q es ∙ ap is_some h
 
 -- the same, where the map has the places
-pub fresh-push : {V : Type 0} (m : BTreeMap (Bor (List ℕ)) ℕ) (es : List (Bor (List ℕ) × V)) (q key : List ℕ) (place first : ℕ) → key ≡ q → Agrees m es → place ≡ length es
-    → first ≡ unwrap_or (get_by (λ y. slice_cmp nat_cmp key y.now) m) place → first ≡ place → is_there (texts es) q ≡ false
+pub fresh-push : {V : Type 0} (m : List ℕ → Option ℕ) (es : List (Bor (List ℕ) × V)) (q key : List ℕ) (place first : ℕ) → key ≡ q → Agrees m es → place ≡ length es
+    → first ≡ unwrap_or (m key) place → first ≡ place → is_there (texts es) q ≡ false
 fresh-push m es q key place first same old here says last =
     fresh-place (texts es) q place first (here ∙ sym (simp length-map)) (says ∙ ap (λ o. unwrap_or o place) (old key ∙ ap (place_of (texts es)) same)) last
 
-pub old-push : {V : Type 0} (m : BTreeMap (Bor (List ℕ)) ℕ) (es : List (Bor (List ℕ) × V)) (q key : List ℕ) (place first : ℕ) → key ≡ q → Agrees m es
-    → first ≡ unwrap_or (get_by (λ y. slice_cmp nat_cmp key y.now) m) place → (first ≡ place → ⊥) → place_of (texts es) q ≡ Some first
+pub old-push : {V : Type 0} (m : List ℕ → Option ℕ) (es : List (Bor (List ℕ) × V)) (q key : List ℕ) (place first : ℕ) → key ≡ q → Agrees m es
+    → first ≡ unwrap_or (m key) place → (first ≡ place → ⊥) → place_of (texts es) q ≡ Some first
 old-push m es q key place first same old says apart =
     old-place (texts es) q place first (says ∙ ap (λ o. unwrap_or o place) (old key ∙ ap (place_of (texts es)) same)) apart
 

@@ -12,3 +12,4 @@ pub mod Table
 pub mod Pins
 pub mod Elaboration
 pub mod Law
+pub mod Placed

@@ -12,6 +12,7 @@ mod law;
 mod modules;
 mod names;
 mod nets;
+mod places;
 mod ports;
 mod rows;
 mod said;

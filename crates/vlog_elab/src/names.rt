@@ -1,27 +1,31 @@
 ghost use Rattle.std.specs.Prelude.{◌≡◌, ℕ, List, [], ◌∷◌, ◌++◌, not, if◌then◌else◌, length, slice_get, bytes_eq, Some, unwrap_or, IfOk, OnOk, OnErr};
+ghost use Rattle.std.specs.List.{position};
 ghost use Rattle.std.specs.Option.{option_copied, option_map};
-ghost use Rattle.std.specs.Cmp.Lexicographic.{slice_cmp};
-ghost use Rattle.std.specs.Ordering.{nat_cmp};
-ghost use Rattle.std.specs.BTreeMap.{get_by, IsUnchanged};
+ghost use Rattle.vlog_elab.specs.Agree.{Agrees, AgreesPastFew};
 ghost use Rattle.vlog_elab.specs.Named.{named, place_of, is_there};
+ghost use Rattle.vlog_elab.specs.Placed.{place_at};
 ghost use Rattle.vlog_elab.specs.Walks.{with_new};
 
+use crate::places::Places;
 use emh_base::{Name, NoMemory};
 use std::alloc::Global;
-use std::collections::BTreeMap;
 use std::marker::Model;
 
+/// Up to so many entries are found by looking through them, without a map, which would take memory for each instance.
+const FEW: usize = 8;
+
 /// Names, each with a value, in the order in which they were added. The first of a name is found, in logarithmic time.
+/// The map of places is kept where there are more than `FEW` entries.
 #[derive(Drop)]
 pub struct Names<'a, V> {
-    places: BTreeMap<&'a [u8], usize>,
+    places: Places<'a>,
     entries: Vec<(&'a Name, V)>,
 }
 
 impl<'a, V> Model for Names<'a, V> {
     ghost use Rattle.std.specs.Prelude.{List, ℕ};
     ghost use Rattle.std.specs.Coded.{coded_list, coded_ℕ, coded×};
-    ghost use Rattle.vlog_elab.specs.Agree.{texts, Agrees};
+    ghost use Rattle.vlog_elab.specs.Agree.{texts, AgreesPastFew};
 
     ghost Value = { List (List ℕ × V) };
 
@@ -29,7 +33,7 @@ impl<'a, V> Model for Names<'a, V> {
 
     ghost view = { λ names. texts names.entries.items };
 
-    ghost invariant = { λ names. Agrees names.places names.entries.items };
+    ghost invariant = { λ names. AgreesPastFew names.places names.entries.items };
 }
 
 impl<'a, V: Drop> Names<'a, V> {
@@ -38,7 +42,7 @@ impl<'a, V: Drop> Names<'a, V> {
         ensures { result ≡ [] }
     {
         Names {
-            places: BTreeMap::new(alloc),
+            places: Places::new(alloc),
             entries: Vec::new(alloc),
         }
     }
@@ -54,7 +58,10 @@ impl<'a, V: Drop> Names<'a, V> {
     pub fn find(&self, name: &Name) -> Option<usize>
         ensures { result ≡ place_of self.now name.now }
     {
-        self.places.get(name.as_bytes()).copied()
+        if self.entries.len() <= FEW {
+            return first_of(self.entries.as_slice(), name.as_bytes());
+        }
+        self.places.get(name.as_bytes())
     }
 
     pub fn contains(&self, name: &Name) -> bool
@@ -99,8 +106,13 @@ impl<'a, V: Drop> Names<'a, V> {
         ensures err { OnErr result (self.new ≡ self.old) }
     {
         let place = self.entries.len();
+        if place < FEW {
+            self.entries.push((name, value))?;
+            return Ok(());
+        }
+        place_few(&mut self.places, &self.entries)?;
         self.entries.push((name, value))?;
-        match place_in(&mut self.places, name.as_bytes(), place) {
+        match self.places.get_or_insert(name.as_bytes(), place) {
             Ok(_) => Ok(()),
             Err(_) => {
                 self.entries.pop();
@@ -116,8 +128,15 @@ impl<'a, V: Drop> Names<'a, V> {
         ensures err { OnErr result (self.new ≡ self.old) }
     {
         let place = self.entries.len();
+        if place <= FEW {
+            if self.contains(name) {
+                return Ok(false);
+            }
+            self.push(name, value)?;
+            return Ok(true);
+        }
         self.entries.push((name, value))?;
-        match place_in(&mut self.places, name.as_bytes(), place) {
+        match self.places.get_or_insert(name.as_bytes(), place) {
             Ok(first) => {
                 if first == place {
                     return Ok(true);
@@ -133,19 +152,31 @@ impl<'a, V: Drop> Names<'a, V> {
     }
 }
 
-/// The place that a name has in a map, or else this one, which it gets.
-fn place_in<'a>(
-    places: &mut BTreeMap<&'a [u8], usize>,
-    name: &'a [u8],
-    place: usize,
-) -> Result<usize, NoMemory>
-    ensures first { IfOk result (λ first. first ≡ unwrap_or (get_by (λ k. slice_cmp nat_cmp name.now k.now) places.old) place) }
-    ensures ok { IfOk result (λ first. (q : List ℕ) → get_by (λ k. slice_cmp nat_cmp q k.now) places.new
-        ≡ (if bytes_eq name.now q then Some first else get_by (λ k. slice_cmp nat_cmp q k.now) places.old)) }
-    ensures err { OnErr result (IsUnchanged places.old places.new) }
+/// The place of the first entry of that name, found by looking through them.
+fn first_of<V>(entries: &[(&Name, V)], name: &[u8]) -> Option<usize>
+    ensures { result ≡ position (λ entry. bytes_eq name.now entry.0.now) entries.now }
 {
-    match places.entry(name) {
-        Ok(entry) => Ok(*entry.or_insert(place)),
-        Err(_) => Err(NoMemory),
+    entries.iter().position(|entry| name == entry.0.as_bytes())
+}
+
+/// Makes the map of these entries where there are few of them, for which none was kept.
+fn place_few<'a, V>(places: &mut Places<'a>, entries: &Vec<(&'a Name, V)>) -> Result<(), NoMemory>
+    ensures ok { OnOk result (AgreesPastFew places.old entries.now.items → Agrees (place_at places.new.by_number places.new.by_name) entries.now.items) }
+    ensures err { OnErr result (AgreesPastFew places.old entries.now.items → AgreesPastFew places.new entries.now.items) }
+{
+    if entries.len() <= FEW {
+        *places = places_of(*entries.allocator(), entries.as_slice())?;
     }
+    Ok(())
+}
+
+/// The map of the places of these entries.
+fn places_of<'a, V>(alloc: Global, entries: &[(&'a Name, V)]) -> Result<Places<'a>, NoMemory>
+    ensures { IfOk result (λ places. Agrees (place_at places.by_number places.by_name) entries.now) }
+{
+    let mut places = Places::new(alloc);
+    for place in 0..entries.len() {
+        places.get_or_insert(entries[place].0.as_bytes(), place)?;
+    }
+    Ok(places)
 }
