@@ -73,6 +73,13 @@ const TABLES: &[(&[u8], &str)] = &[
         b"module b(input i); c u(i); endmodule module a(input i); b u(i); endmodule module c(input i); endmodule",
         "3 b (0 input) [0 i] {0 u:5(0.0)} 4 a (0 input) [0 i] {0 u:3(0.0)} 5 c (0 input) [0 i] {}",
     ),
+    // the last three names have one number in a map of places
+    (
+        b"module t(); wire a, b, c, d, e, f, g, h, ikZiiiiiiZki, jehZoiioZhej, k_vKuiiuKv_k; \
+INV u(jehZoiioZhej, k_vKuiiuKv_k), v(ikZiiiiiiZki, h); endmodule",
+        "3 t () [0 a, 1 b, 2 c, 3 d, 4 e, 5 f, 6 g, 7 h, 8 ikZiiiiiiZki, 9 jehZoiioZhej, 10 k_vKuiiuKv_k] \
+{0 u:0(9.0, 10.0), 1 v:0(8.0, 7.0)}",
+    ),
 ];
 
 #[test]
@@ -130,6 +137,10 @@ const FAULTS: &[(&[u8], &str)] = &[
         "TooWide @34 b",
     ),
     (b"module t; wire [0:4096] a, b; endmodule", "TooWide @16 a"),
+    (
+        b"module t; wire a, b, c, d, e, f, g, h, ikZiiiiiiZki, jehZoiioZhej, jehZoiioZhej; endmodule",
+        "NameTaken @67 jehZoiioZhej",
+    ),
     (
         b"module t; wire [65535:61440] a; endmodule",
         "3 t () [0 a[65535:61440]] {}",
