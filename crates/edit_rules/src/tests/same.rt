@@ -44,17 +44,20 @@ fn same_insts(one: &List<PInst>, other: &List<PInst>) -> bool {
     same
 }
 
-fn same_kind(one: &PModule, other: &PModule) -> bool {
+fn same_head(one: &PModule, other: &PModule) -> bool {
     one.id == other.id
         && one.name.as_bytes() == other.name.as_bytes()
         && one.leaf == other.leaf
         && one.locked == other.locked
-        && one.next_net == other.next_net
-        && one.next_inst == other.next_inst
+}
+
+fn same_counters(one: &PModule, other: &PModule) -> bool {
+    one.next_net == other.next_net && one.next_inst == other.next_inst
 }
 
 fn same_module(one: &PModule, other: &PModule) -> bool {
-    same_kind(one, other)
+    same_head(one, other)
+        && same_counters(one, other)
         && one.ports.as_slice() == other.ports.as_slice()
         && same_nets(&one.nets, &other.nets)
         && same_insts(&one.insts, &other.insts)
