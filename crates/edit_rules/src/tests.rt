@@ -1,60 +1,114 @@
 mod asks;
-mod cases;
 mod designs;
+mod done;
 mod limits;
+mod refused;
 mod rows;
-mod shown;
+mod same;
+mod yard;
 
-use crate::{Judged, Need, apply_plain, is_good_state, judge};
+use crate::{Judged, apply_plain, is_good_state, judge};
 use asks::{Ask, edit_of};
-use designs::{Shape, design_of};
-use emh_base::{Edit, State};
-use shown::{shown_answer, shown_judged, shown_state};
+use designs::{Conns, Design, conns_of, state_of};
+use emh_base::{By, Change, NoMemory, Object, Refusal, Rule, State, TryCopy};
+use same::{same_conns, same_state};
 use std::alloc::Global;
-use std::test::Fail;
+use std::process::Abort;
 
-/// What is answered to an edit of a state, which is done. It is judged the same before.
-fn carried(alloc: Global, state: &mut State, edit: &Edit) -> Result<String, Fail> {
-    is_good_state(alloc, state)?
-        .then_some(())
-        .ok_or("no good state")?;
-    let judged = judge(alloc, state, edit);
-    let told = shown_answer(alloc, &apply_plain(state, edit))?;
-    is_told(alloc, &judged, told.as_str())?
-        .then_some(())
-        .ok_or("judged otherwise")?;
-    Ok(told)
-}
+/// Edits of a design, of which the last is done: the id that it gives, the connections that stood before, and the design
+/// after it.
+type Done = (&'static [Ask], Ask, Option<u32>, Conns, Design);
 
-/// Whether what is judged is what was told.
-fn is_told(alloc: Global, judged: &Result<Need, Judged>, told: &str) -> Result<bool, Fail> {
-    match judged {
-        Ok(_) => Ok(told.starts_with("User")),
-        Err(judged) => Ok(shown_judged(alloc, judged)?.as_str() == told),
+/// Edits of a design, of which the last is refused.
+type Refused = (&'static [Ask], Ask, Told);
+
+/// The code of the rule that is broken, the rule, and on what it is.
+type Told = (u32, Rule, Object);
+
+/// What is answered to an edit of a good state, which is done. It is judged the same before.
+fn carried(rt: &impl Abort, alloc: Global, state: &mut State, ask: Ask) -> Result<Change, Judged> {
+    let edit = edit_of(alloc, ask)?;
+    let good = is_good_state(alloc, state)?;
+    assert!(rt; good);
+    let judged = judge(alloc, state, &edit).err();
+    let told = apply_plain(state, &edit);
+    match &told {
+        Ok(_) => assert_eq!(rt; judged, None),
+        Err(refused) => assert_eq!(rt; judged, Some(*refused)),
     }
+    told
 }
 
-/// What is answered to the last of some edits of a design, and the state after it.
-fn played(alloc: Global, state: &mut State, asks: &[Ask]) -> Result<(String, String), Fail> {
-    let mut answer = String::new(alloc);
+/// A design after some edits, which are done.
+fn begun(rt: &impl Abort, alloc: Global, design: &Design, asks: &[Ask]) -> Result<State, Judged> {
+    let mut state = state_of(alloc, design)?;
     for ask in asks {
-        answer = carried(alloc, state, &edit_of(alloc, *ask)?)?;
+        carried(rt, alloc, &mut state, *ask)?;
     }
-    Ok((answer, shown_state(alloc, state)?))
+    Ok(state)
 }
 
-/// Edits of a design, what is answered to the last one, and the lines of the state after it.
-type Case = (&'static [Ask], &'static str, &'static [&'static str]);
-
-fn play(alloc: Global, shapes: &[Shape], asks: &[Ask]) -> Result<(String, String), Fail> {
-    let mut state = design_of(alloc, shapes, 3, false)?;
-    played(alloc, &mut state, asks)
+/// An edit is done, and this is told of it.
+fn does(
+    rt: &impl Abort,
+    alloc: Global,
+    state: &mut State,
+    ask: Ask,
+    made: Option<u32>,
+    was: Conns,
+) -> Result<(), Judged> {
+    let wanted = conns_of(alloc, was)?;
+    let change = carried(rt, alloc, state, ask)?;
+    assert_eq!(rt; change.by, By::User);
+    assert_eq!(rt; change.made, made);
+    assert!(rt; same_conns(&change.was, &wanted));
+    Ok(())
 }
 
-fn lines(alloc: Global, lines: &[&str]) -> Result<String, Fail> {
-    let mut text = String::new(alloc);
-    for line in lines {
-        text.push_str(line)?;
-    }
-    Ok(text)
+/// An edit is refused, and the state is as before.
+fn refuses(
+    rt: &impl Abort,
+    alloc: Global,
+    state: &mut State,
+    ask: Ask,
+    told: Told,
+) -> Result<(), Judged> {
+    let (code, rule, object) = told;
+    let before = state.copy()?;
+    let refused = carried(rt, alloc, state, ask).err();
+    let same = same_state(state, &before)?;
+    assert_eq!(rt; refused, Some(Judged::Rule(Refusal { rule, object })));
+    assert_eq!(rt; rule.code(), code);
+    assert!(rt; same);
+    Ok(())
+}
+
+/// The whole state is this design.
+fn is_now(rt: &impl Abort, alloc: Global, state: &State, design: &Design) -> Result<(), NoMemory> {
+    let wanted = state_of(alloc, design)?;
+    let same = same_state(state, &wanted)?;
+    assert!(rt; same);
+    Ok(())
+}
+
+/// The last of some edits of a design is done, with what is told of it and the design after it.
+fn is_done(rt: &impl Abort, alloc: Global, design: &Design, case: &Done) -> Result<(), Judged> {
+    let (first, last, made, was, after) = case;
+    let mut state = begun(rt, alloc, design, first)?;
+    does(rt, alloc, &mut state, *last, *made, was)?;
+    is_now(rt, alloc, &state, after)?;
+    Ok(())
+}
+
+/// The last of some edits of a design is refused. The state, which is as before it, is handed on.
+fn is_refused(
+    rt: &impl Abort,
+    alloc: Global,
+    design: &Design,
+    case: &Refused,
+) -> Result<State, Judged> {
+    let (first, last, told) = case;
+    let mut state = begun(rt, alloc, design, first)?;
+    refuses(rt, alloc, &mut state, *last, *told)?;
+    Ok(state)
 }

@@ -1,7 +1,6 @@
 //! Edits as constants.
-use emh_base::{
-    Dir, Edit, InstId, List, ModId, Name, NetId, NoMemory, Path, Placement, Range, Src,
-};
+use super::designs::{Ends, name_of, path_of, range_of, sources_of};
+use emh_base::{Dir, Edit, InstId, ModId, Name, NetId, NoMemory, Placement, Src};
 use std::alloc::Global;
 
 /// An edit, its ids as numbers.
@@ -15,7 +14,7 @@ pub enum Ask {
     DeletePort(u32, u32),
     CreateInst(u32, &'static str, u32),
     DeleteInst(u32, u32),
-    Connect(u32, u32, u32, &'static [Source]),
+    Connect(u32, u32, u32, &'static [Src]),
     Disconnect(u32, u32, u32),
     RenameModule(u32, &'static str),
     RenameNet(u32, u32, &'static str),
@@ -30,59 +29,21 @@ pub enum Ask {
     SetGrid(u32),
 }
 
-/// A range's indices.
-pub type Ends = (u32, u32);
-
-/// A constant, or a bit of a net by the net's id and the offset from the left.
-#[derive(Clone, Copy)]
-pub enum Source {
-    Tie0,
-    Tie1,
-    Net(u32, u16),
-}
-
-pub fn range_of(ends: Option<Ends>) -> Option<Range> {
-    match ends {
-        None => None,
-        Some((left, right)) => Some(Range { left, right }),
-    }
-}
-
-pub fn name_of(alloc: Global, text: &str) -> Result<Name, NoMemory> {
-    match Name::new(alloc, text.as_bytes()) {
-        Ok(name) => Ok(name),
-        Err(_) => Err(NoMemory),
-    }
-}
-
-fn path_of(alloc: Global, steps: &[u32]) -> Result<Path, NoMemory> {
-    let mut path = Path::new(alloc);
-    for step in steps {
-        path.push(InstId(*step))?;
-    }
-    Ok(path)
-}
-
-pub fn sources_of(alloc: Global, sources: &[Source]) -> Result<List<Src>, NoMemory> {
-    let mut bits = List::new(alloc);
-    for source in sources {
-        bits.push(match *source {
-            Source::Tie0 => Src::Tie0,
-            Source::Tie1 => Src::Tie1,
-            Source::Net(net, offset) => Src::Bit(NetId(net), offset),
-        })?;
-    }
-    Ok(bits)
-}
-
 pub fn edit_of(alloc: Global, ask: Ask) -> Result<Edit, NoMemory> {
     match ask {
-        Ask::CreateModule(name) => Ok(Edit::CreateModule {
-            name: name_of(alloc, name)?,
-        }),
-        Ask::RenameModule(module, name) => Ok(Edit::RenameModule {
+        Ask::CreateModule(name)
+        | Ask::CreateNet(_, name, _)
+        | Ask::CreatePort(_, name, _, _)
+        | Ask::CreateInst(_, name, _)
+        | Ask::RenameModule(_, name)
+        | Ask::RenameNet(_, _, name)
+        | Ask::RenameInst(_, _, name)
+        | Ask::Uniquify(_, _, name) => Ok(naming(ask, name_of(alloc, name)?)),
+        Ask::Connect(module, inst, port, bits) => Ok(Edit::Connect {
             module: ModId(module),
-            name: name_of(alloc, name)?,
+            inst: InstId(inst),
+            port: NetId(port),
+            bits: sources_of(alloc, bits)?,
         }),
         Ask::Place(path, placement) => Ok(Edit::Place {
             path: path_of(alloc, path)?,
@@ -91,61 +52,54 @@ pub fn edit_of(alloc: Global, ask: Ask) -> Result<Edit, NoMemory> {
         Ask::Unplace(path) => Ok(Edit::Unplace {
             path: path_of(alloc, path)?,
         }),
-        _ => net_edit_of(alloc, ask),
+        _ => Ok(numbered(ask)),
     }
 }
 
-fn net_edit_of(alloc: Global, ask: Ask) -> Result<Edit, NoMemory> {
+/// The edits that give a name.
+fn naming(ask: Ask, name: Name) -> Edit {
     match ask {
-        Ask::CreateNet(module, name, range) => Ok(Edit::CreateNet {
+        Ask::CreateNet(module, _, ends) => Edit::CreateNet {
             module: ModId(module),
-            name: name_of(alloc, name)?,
-            range: range_of(range),
-        }),
-        Ask::CreatePort(module, name, dir, range) => Ok(Edit::CreatePort {
+            name,
+            range: range_of(ends),
+        },
+        Ask::CreatePort(module, _, dir, ends) => Edit::CreatePort {
             module: ModId(module),
-            name: name_of(alloc, name)?,
+            name,
             dir,
-            range: range_of(range),
-        }),
-        Ask::RenameNet(module, net, name) => Ok(Edit::RenameNet {
+            range: range_of(ends),
+        },
+        Ask::CreateInst(module, _, master) => Edit::CreateInst {
+            module: ModId(module),
+            name,
+            master: ModId(master),
+        },
+        Ask::RenameModule(module, _) => Edit::RenameModule {
+            module: ModId(module),
+            name,
+        },
+        Ask::RenameNet(module, net, _) => Edit::RenameNet {
             module: ModId(module),
             net: NetId(net),
-            name: name_of(alloc, name)?,
-        }),
-        _ => inst_edit_of(alloc, ask),
-    }
-}
-
-fn inst_edit_of(alloc: Global, ask: Ask) -> Result<Edit, NoMemory> {
-    match ask {
-        Ask::CreateInst(module, name, master) => Ok(Edit::CreateInst {
-            module: ModId(module),
-            name: name_of(alloc, name)?,
-            master: ModId(master),
-        }),
-        Ask::Connect(module, inst, port, bits) => Ok(Edit::Connect {
+            name,
+        },
+        Ask::RenameInst(module, inst, _) => Edit::RenameInst {
             module: ModId(module),
             inst: InstId(inst),
-            port: NetId(port),
-            bits: sources_of(alloc, bits)?,
-        }),
-        Ask::RenameInst(module, inst, name) => Ok(Edit::RenameInst {
+            name,
+        },
+        Ask::Uniquify(module, inst, _) => Edit::Uniquify {
             module: ModId(module),
             inst: InstId(inst),
-            name: name_of(alloc, name)?,
-        }),
-        Ask::Uniquify(module, inst, name) => Ok(Edit::Uniquify {
-            module: ModId(module),
-            inst: InstId(inst),
-            name: name_of(alloc, name)?,
-        }),
-        _ => Ok(edit_by_numbers(ask)),
+            name,
+        },
+        _ => Edit::CreateModule { name },
     }
 }
 
 /// The edits that numbers tell.
-fn edit_by_numbers(ask: Ask) -> Edit {
+fn numbered(ask: Ask) -> Edit {
     match ask {
         Ask::DeleteModule(module) => Edit::DeleteModule {
             module: ModId(module),

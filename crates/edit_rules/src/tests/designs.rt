@@ -1,50 +1,102 @@
-//! Designs as constants.
-use super::asks::{Ends, Source, name_of, range_of, sources_of};
+//! Designs as constants, and as states.
 use emh_base::{
-    Conn, Dir, InstId, List, ModId, NetId, NoMemory, PInst, PModule, PNet, PPort, Places, Plain,
-    Settings, State,
+    Conn, InstId, List, ModId, Name, NetId, NoMemory, PInst, PModule, PNet, PPort, Path, Placement,
+    Places, Plain, Range, Settings, Src, State,
 };
 use std::alloc::Global;
 
-/// An instance's name, its master and the sources at each port, which is open where there are none.
-type Inside = (&'static str, u32, &'static [&'static [Source]]);
+/// A range's indices.
+pub type Ends = (u32, u32);
 
-/// A module. Its id is its place among the modules, those of its nets and instances are their places in it.
+/// A net's id, its name and its range.
+type Net = (u32, &'static str, Option<Ends>);
+
+/// The sources at each port, which is open where there are none.
+pub type Conns = &'static [&'static [Src]];
+
+/// An instance's id, its name, its master and its connections.
+type Inst = (u32, &'static str, u32, Conns);
+
+/// A module, its ids as numbers.
 #[derive(Clone, Copy)]
-pub struct Shape {
+pub struct Module {
+    pub id: u32,
     pub name: &'static str,
     pub leaf: bool,
-    pub nets: &'static [(&'static str, Option<Ends>)],
-    pub ports: &'static [(u32, Dir)],
-    pub insts: &'static [Inside],
+    pub locked: bool,
+    pub nets: &'static [Net],
+    pub ports: &'static [PPort],
+    pub insts: &'static [Inst],
+    pub next_net: u32,
+    pub next_inst: u32,
 }
 
-fn nets_of(alloc: Global, shape: &Shape) -> Result<List<PNet>, NoMemory> {
-    let mut nets = List::new(alloc);
-    let mut id: u32 = 0;
-    for (name, range) in shape.nets {
-        nets.push(PNet {
-            id: NetId(id),
-            name: name_of(alloc, name)?,
-            range: range_of(*range),
-        })?;
-        id = id.saturating_add(1);
+/// A design: its modules, the id of the next one and of the top, what is placed and what is set.
+#[derive(Clone, Copy)]
+pub struct Design {
+    pub modules: &'static [Module],
+    pub next_module: u32,
+    pub top: u32,
+    pub places: &'static [(&'static [u32], Placement)],
+    pub settings: Settings,
+}
+
+/// A module that holds nothing.
+pub const EMPTY: Module = Module {
+    id: 0,
+    name: "",
+    leaf: false,
+    locked: false,
+    nets: &[],
+    ports: &[],
+    insts: &[],
+    next_net: 0,
+    next_inst: 0,
+};
+
+/// A design of no modules, with nothing placed and nothing set.
+pub const BARE: Design = Design {
+    modules: &[],
+    next_module: 0,
+    top: 0,
+    places: &[],
+    settings: Settings {
+        fanout: None,
+        grid: None,
+    },
+};
+
+pub fn range_of(ends: Option<Ends>) -> Option<Range> {
+    match ends {
+        None => None,
+        Some((left, right)) => Some(Range { left, right }),
     }
-    Ok(nets)
 }
 
-fn ports_of(alloc: Global, shape: &Shape) -> Result<List<PPort>, NoMemory> {
-    let mut ports = List::new(alloc);
-    for (net, dir) in shape.ports {
-        ports.push(PPort {
-            net: NetId(*net),
-            dir: *dir,
-        })?;
+pub fn name_of(alloc: Global, text: &str) -> Result<Name, NoMemory> {
+    match Name::new(alloc, text.as_bytes()) {
+        Ok(name) => Ok(name),
+        Err(_) => Err(NoMemory),
     }
-    Ok(ports)
 }
 
-fn conns_of(alloc: Global, ports: &[&[Source]]) -> Result<List<Conn>, NoMemory> {
+pub fn path_of(alloc: Global, steps: &[u32]) -> Result<Path, NoMemory> {
+    let mut path = Path::new(alloc);
+    for step in steps {
+        path.push(InstId(*step))?;
+    }
+    Ok(path)
+}
+
+pub fn sources_of(alloc: Global, sources: &[Src]) -> Result<List<Src>, NoMemory> {
+    let mut bits = List::new(alloc);
+    for source in sources {
+        bits.push(*source)?;
+    }
+    Ok(bits)
+}
+
+pub fn conns_of(alloc: Global, ports: &[&[Src]]) -> Result<List<Conn>, NoMemory> {
     let mut conns = List::new(alloc);
     for sources in ports {
         if sources.is_empty() {
@@ -56,75 +108,74 @@ fn conns_of(alloc: Global, ports: &[&[Source]]) -> Result<List<Conn>, NoMemory> 
     Ok(conns)
 }
 
-fn insts_of(alloc: Global, shape: &Shape) -> Result<List<PInst>, NoMemory> {
-    let mut insts = List::new(alloc);
-    let mut id: u32 = 0;
-    for (name, master, ports) in shape.insts {
-        insts.push(PInst {
-            id: InstId(id),
+fn nets_of(alloc: Global, nets: &[Net]) -> Result<List<PNet>, NoMemory> {
+    let mut made = List::new(alloc);
+    for (id, name, range) in nets {
+        made.push(PNet {
+            id: NetId(*id),
+            name: name_of(alloc, name)?,
+            range: range_of(*range),
+        })?;
+    }
+    Ok(made)
+}
+
+fn ports_of(alloc: Global, ports: &[PPort]) -> Result<List<PPort>, NoMemory> {
+    let mut made = List::new(alloc);
+    for port in ports {
+        made.push(*port)?;
+    }
+    Ok(made)
+}
+
+fn insts_of(alloc: Global, insts: &[Inst]) -> Result<List<PInst>, NoMemory> {
+    let mut made = List::new(alloc);
+    for (id, name, master, ports) in insts {
+        made.push(PInst {
+            id: InstId(*id),
             name: name_of(alloc, name)?,
             master: ModId(*master),
             conns: conns_of(alloc, ports)?,
         })?;
-        id = id.saturating_add(1);
     }
-    Ok(insts)
+    Ok(made)
 }
 
-/// A counter past so many ids from 0 on, or one that is at its end.
-fn counter(ids: usize, at_end: bool) -> u32 {
-    if at_end {
-        return u32::MAX;
-    }
-    ids.min(1000) as u32
-}
-
-fn module_of(alloc: Global, id: u32, shape: &Shape, at_end: bool) -> Result<PModule, NoMemory> {
+fn module_of(alloc: Global, module: &Module) -> Result<PModule, NoMemory> {
     Ok(PModule {
-        id: ModId(id),
-        name: name_of(alloc, shape.name)?,
-        leaf: shape.leaf,
-        locked: false,
-        nets: nets_of(alloc, shape)?,
-        ports: ports_of(alloc, shape)?,
-        insts: insts_of(alloc, shape)?,
-        next_net: counter(shape.nets.len(), at_end),
-        next_inst: counter(shape.insts.len(), at_end),
+        id: ModId(module.id),
+        name: name_of(alloc, module.name)?,
+        leaf: module.leaf,
+        locked: module.locked,
+        nets: nets_of(alloc, module.nets)?,
+        ports: ports_of(alloc, module.ports)?,
+        insts: insts_of(alloc, module.insts)?,
+        next_net: module.next_net,
+        next_inst: module.next_inst,
     })
 }
 
-/// A module that holds nothing.
-pub const EMPTY: Shape = Shape {
-    name: "",
-    leaf: false,
-    nets: &[],
-    ports: &[],
-    insts: &[],
-};
+fn places_of(alloc: Global, places: &[(&[u32], Placement)]) -> Result<Places, NoMemory> {
+    let mut made = Places::new(alloc);
+    for (path, placement) in places {
+        made.set(path_of(alloc, path)?, *placement)?;
+    }
+    Ok(made)
+}
 
-/// A design of these modules, with nothing placed and nothing set. Its counters may all be at their end.
-pub fn design_of(
-    alloc: Global,
-    shapes: &[Shape],
-    top: u32,
-    at_end: bool,
-) -> Result<State, NoMemory> {
+/// The state that a design is.
+pub fn state_of(alloc: Global, design: &Design) -> Result<State, NoMemory> {
     let mut modules = List::new(alloc);
-    let mut id: u32 = 0;
-    for shape in shapes {
-        modules.push(module_of(alloc, id, shape, at_end)?)?;
-        id = id.saturating_add(1);
+    for module in design.modules {
+        modules.push(module_of(alloc, module)?)?;
     }
     Ok(State {
         plain: Plain {
             modules,
-            next_module: counter(shapes.len(), at_end),
+            next_module: design.next_module,
         },
-        top: ModId(top),
-        places: Places::new(alloc),
-        settings: Settings {
-            fanout: None,
-            grid: None,
-        },
+        top: ModId(design.top),
+        places: places_of(alloc, design.places)?,
+        settings: design.settings,
     })
 }

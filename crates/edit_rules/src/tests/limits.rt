@@ -1,52 +1,34 @@
 //! Edits at the limits.
+use super::asks::Ask;
 use super::asks::Ask::{CreateInst, CreateNet, CreatePort};
-use super::asks::{Ask, edit_of, name_of};
-use super::carried;
-use super::designs::{EMPTY, Shape, design_of};
-use super::shown::shown_state;
-use emh_base::{Dir, Edit, InstId, List, ModId, PInst, PModule, Plain, State};
+use super::designs::{BARE, Design, EMPTY, Module, name_of, state_of};
+use super::{Told, does, refuses};
+use crate::Judged;
+use emh_base::Rule::{NameTaken, RangeTooWide, TooDeep, TooManyBits, TooManyOccurrences};
+use emh_base::{Dir, InstId, List, ModId, NoMemory, Object, PInst, PModule, State};
 use std::alloc::Global;
-use std::test::Fail;
 
-/// A top that holds nothing yet.
-const TOP: &[Shape] = &[Shape { name: "t", ..EMPTY }];
+/// A top that holds nothing.
+const TOP: Design = Design {
+    modules: &[Module { name: "t", ..EMPTY }],
+    next_module: 1,
+    ..BARE
+};
 
-fn make_module(alloc: Global, state: &mut State, name: &str) -> Result<String, Fail> {
-    let edit = Edit::CreateModule {
-        name: name_of(alloc, name)?,
-    };
-    carried(alloc, state, &edit)
-}
-
-fn make_inst(
-    alloc: Global,
-    state: &mut State,
-    module: u32,
-    name: &str,
-    master: u32,
-) -> Result<String, Fail> {
-    let edit = Edit::CreateInst {
-        module: ModId(module),
-        name: name_of(alloc, name)?,
-        master: ModId(master),
-    };
-    carried(alloc, state, &edit)
-}
-
-/// Module eK, whose id is K, with an instance of the one before it where it isn't an end of the chain.
-fn link(alloc: Global, number: u32, is_end: bool) -> Result<PModule, Fail> {
+/// Module eK, whose id is K + 1, with so many instances of the one before.
+fn link(alloc: Global, number: u32, count: u32) -> Result<PModule, NoMemory> {
+    let name = format!(in alloc; "e{number}")?;
     let mut insts = List::new(alloc);
-    if !is_end {
+    for inst in 0..count {
         insts.push(PInst {
-            id: InstId(0),
-            name: name_of(alloc, "x")?,
-            master: ModId(number.saturating_sub(1)),
+            id: InstId(inst),
+            name: name_of(alloc, format!(in alloc; "x{inst}")?.as_str())?,
+            master: ModId(number),
             conns: List::new(alloc),
         })?;
     }
-    let name = format!(in alloc; "e{number}")?;
     Ok(PModule {
-        id: ModId(number),
+        id: ModId(number.saturating_add(1)),
         name: name_of(alloc, name.as_str())?,
         leaf: false,
         locked: false,
@@ -54,161 +36,216 @@ fn link(alloc: Global, number: u32, is_end: bool) -> Result<PModule, Fail> {
         ports: List::new(alloc),
         insts,
         next_net: 0,
-        next_inst: 1,
+        next_inst: count,
     })
 }
 
-/// Modules e0 to e257, of which e1 to e256 have an instance of the one before. The last one is the top.
-fn chain(alloc: Global) -> Result<State, Fail> {
-    let mut modules = List::new(alloc);
-    for number in 0..258 {
-        modules.push(link(alloc, number, number == 0 || number == 257)?)?;
+/// A top that holds nothing, and so many modules, each with so many instances of the one before.
+fn chain(alloc: Global, links: u32, count: u32) -> Result<State, NoMemory> {
+    let mut state = state_of(alloc, &TOP)?;
+    state.plain.modules.push(link(alloc, 0, 0)?)?;
+    for number in 1..links {
+        state.plain.modules.push(link(alloc, number, count)?)?;
     }
-    let mut state = design_of(alloc, TOP, 257, false)?;
-    state.plain = Plain {
-        modules,
-        next_module: 258,
-    };
+    state.plain.next_module = links.saturating_add(1);
     Ok(state)
 }
 
 #[test]
-fn walks_have_at_most_256_instances(rt: HostRuntime) -> Result<(), Fail> {
-    let mut state = chain(rt.alloc())?;
-    let before = shown_state(rt.alloc(), &state)?;
-    let refused = make_inst(rt.alloc(), &mut state, 257, "x", 256)?;
-    assert_eq!(rt; refused.as_str(), "29 TooDeep module 256");
-    assert_eq!(rt; shown_state(rt.alloc(), &state)?.as_str(), before.as_str());
-    let done = make_inst(rt.alloc(), &mut state, 257, "x", 255)?;
-    assert_eq!(rt; done.as_str(), "User made 1");
-    Ok(())
+fn walks_have_at_most_256_instances(rt: HostRuntime) -> Result<(), Judged> {
+    let mut state = chain(rt.alloc(), 257, 1)?;
+    let told = (29, TooDeep, Object::Module(ModId(257)));
+    refuses(&rt, rt.alloc(), &mut state, CreateInst(0, "x", 257), told)?;
+    does(
+        &rt,
+        rt.alloc(),
+        &mut state,
+        CreateInst(0, "x", 256),
+        Some(0),
+        &[],
+    )
 }
 
-/// The top t, module d0, and modules d1 to d18 of two instances of the one before. The id of dK is K + 1. The top has
+/// Instances in a top over modules e0 to e18, of which each has two of the one before. With the first eight there are
 /// 999,997 occurrences.
-fn levels(alloc: Global) -> Result<State, Fail> {
-    let mut state = design_of(alloc, TOP, 0, false)?;
-    for number in 0..19 {
-        let name = format!(in alloc; "d{number}")?;
-        make_module(alloc, &mut state, name.as_str())?;
-    }
-    for number in 1..19 {
-        make_inst(alloc, &mut state, number + 1, "a", number)?;
-        make_inst(alloc, &mut state, number + 1, "b", number)?;
-    }
-    for number in [18, 17, 16, 15, 13, 8, 5, 1] {
-        let name = format!(in alloc; "i{number}")?;
-        make_inst(alloc, &mut state, 0, name.as_str(), number + 1)?;
-    }
-    Ok(state)
-}
+const TREES: &[(Ask, u32)] = &[
+    (CreateInst(0, "i18", 19), 0),
+    (CreateInst(0, "i17", 18), 1),
+    (CreateInst(0, "i16", 17), 2),
+    (CreateInst(0, "i15", 16), 3),
+    (CreateInst(0, "i13", 14), 4),
+    (CreateInst(0, "i8", 9), 5),
+    (CreateInst(0, "i5", 6), 6),
+    (CreateInst(0, "i1", 2), 7),
+    (CreateInst(0, "x1", 1), 8),
+    (CreateInst(0, "x2", 1), 9),
+    (CreateInst(0, "x3", 1), 10),
+];
+
+/// What is refused where there are 1,000,000.
+const TOO_MANY: &[(Ask, Told)] = &[
+    (
+        CreateInst(0, "x4", 1),
+        (17, TooManyOccurrences, Object::Module(ModId(1))),
+    ),
+    (CreateInst(0, "x1", 1), (5, NameTaken, Object::NewName)),
+];
 
 #[test]
-fn a_top_has_at_most_1000000_occurrences(rt: HostRuntime) -> Result<(), Fail> {
-    let mut state = levels(rt.alloc())?;
-    for (name, answer) in [
-        ("x1", "User made 8"),
-        ("x2", "User made 9"),
-        ("x3", "User made 10"),
-        ("x4", "17 TooManyOccurrences module 1"),
-        ("x1", "5 NameTaken name"),
-    ] {
-        let told = make_inst(rt.alloc(), &mut state, 0, name, 1)?;
-        assert_eq!(rt; told.as_str(), answer, "{name}");
+fn a_top_has_at_most_1000000_occurrences(rt: HostRuntime) -> Result<(), Judged> {
+    let mut state = chain(rt.alloc(), 19, 2)?;
+    for (ask, made) in TREES {
+        does(&rt, rt.alloc(), &mut state, *ask, Some(*made), &[])?;
+    }
+    for (ask, told) in TOO_MANY {
+        refuses(&rt, rt.alloc(), &mut state, *ask, *told)?;
     }
     Ok(())
 }
+
+#[test]
+fn what_the_top_does_not_reach_has_no_limit(rt: HostRuntime) -> Result<(), Judged> {
+    let mut state = chain(rt.alloc(), 201, 2)?;
+    let net = CreateNet(1, "n", Some((0, 4095)));
+    does(&rt, rt.alloc(), &mut state, net, Some(0), &[])?;
+    let told = (17, TooManyOccurrences, Object::Module(ModId(201)));
+    refuses(&rt, rt.alloc(), &mut state, CreateInst(0, "x", 201), told)
+}
+
+const WIDEST: Module = Module {
+    name: "w0",
+    nets: &[
+        (0, "a", Some((0, 4095))),
+        (1, "b", Some((0, 4095))),
+        (2, "c", Some((4095, 0))),
+        (3, "d", Some((0, 3336))),
+    ],
+    next_net: 4,
+    ..EMPTY
+};
 
 /// Module 0 has 15,625 bits, and is 256 times below the top, module 8: 4,000,000 bits. The top doesn't reach modules 9
 /// and 10.
-const FULL: &[Shape] = &[
-    Shape {
-        name: "w0",
-        leaf: false,
-        nets: &[
-            ("a", Some((0, 4095))),
-            ("b", Some((0, 4095))),
-            ("c", Some((4095, 0))),
-            ("d", Some((0, 3336))),
-        ],
-        ports: &[],
-        insts: &[],
-    },
-    Shape {
-        name: "w1",
-        insts: &[("a", 0, &[]), ("b", 0, &[])],
-        ..EMPTY
-    },
-    Shape {
-        name: "w2",
-        insts: &[("a", 1, &[]), ("b", 1, &[])],
-        ..EMPTY
-    },
-    Shape {
-        name: "w3",
-        insts: &[("a", 2, &[]), ("b", 2, &[])],
-        ..EMPTY
-    },
-    Shape {
-        name: "w4",
-        insts: &[("a", 3, &[]), ("b", 3, &[])],
-        ..EMPTY
-    },
-    Shape {
-        name: "w5",
-        insts: &[("a", 4, &[]), ("b", 4, &[])],
-        ..EMPTY
-    },
-    Shape {
-        name: "w6",
-        insts: &[("a", 5, &[]), ("b", 5, &[])],
-        ..EMPTY
-    },
-    Shape {
-        name: "w7",
-        insts: &[("a", 6, &[]), ("b", 6, &[])],
-        ..EMPTY
-    },
-    Shape {
-        name: "w8",
-        insts: &[("a", 7, &[]), ("b", 7, &[])],
-        ..EMPTY
-    },
-    Shape {
-        name: "one",
-        leaf: false,
-        nets: &[("n", None)],
-        ports: &[],
-        insts: &[],
-    },
-    Shape {
-        name: "none",
-        ..EMPTY
-    },
-];
+const FULL: Design = Design {
+    modules: &[
+        WIDEST,
+        Module {
+            id: 1,
+            name: "w1",
+            insts: &[(0, "a", 0, &[]), (1, "b", 0, &[])],
+            next_inst: 2,
+            ..EMPTY
+        },
+        Module {
+            id: 2,
+            name: "w2",
+            insts: &[(0, "a", 1, &[]), (1, "b", 1, &[])],
+            next_inst: 2,
+            ..EMPTY
+        },
+        Module {
+            id: 3,
+            name: "w3",
+            insts: &[(0, "a", 2, &[]), (1, "b", 2, &[])],
+            next_inst: 2,
+            ..EMPTY
+        },
+        Module {
+            id: 4,
+            name: "w4",
+            insts: &[(0, "a", 3, &[]), (1, "b", 3, &[])],
+            next_inst: 2,
+            ..EMPTY
+        },
+        Module {
+            id: 5,
+            name: "w5",
+            insts: &[(0, "a", 4, &[]), (1, "b", 4, &[])],
+            next_inst: 2,
+            ..EMPTY
+        },
+        Module {
+            id: 6,
+            name: "w6",
+            insts: &[(0, "a", 5, &[]), (1, "b", 5, &[])],
+            next_inst: 2,
+            ..EMPTY
+        },
+        Module {
+            id: 7,
+            name: "w7",
+            insts: &[(0, "a", 6, &[]), (1, "b", 6, &[])],
+            next_inst: 2,
+            ..EMPTY
+        },
+        Module {
+            id: 8,
+            name: "w8",
+            insts: &[(0, "a", 7, &[]), (1, "b", 7, &[])],
+            next_inst: 2,
+            ..EMPTY
+        },
+        Module {
+            id: 9,
+            name: "one",
+            nets: &[(0, "n", None)],
+            next_net: 1,
+            ..EMPTY
+        },
+        Module {
+            id: 10,
+            name: "none",
+            ..EMPTY
+        },
+    ],
+    next_module: 11,
+    top: 8,
+    ..BARE
+};
 
-const BITS: &[(Ask, &str)] = &[
-    (CreateNet(8, "z", None), "30 TooManyBits module 8"),
-    (CreateNet(0, "z", None), "30 TooManyBits module 0"),
-    (CreateNet(8, "a", None), "5 NameTaken name"),
-    (CreateNet(8, "z", Some((0, 4096))), "14 RangeTooWide name"),
+const TOO_WIDE: &[(Ask, Told)] = &[
+    (
+        CreateNet(8, "z", None),
+        (30, TooManyBits, Object::Module(ModId(8))),
+    ),
+    (
+        CreateNet(0, "z", None),
+        (30, TooManyBits, Object::Module(ModId(0))),
+    ),
+    (CreateNet(8, "a", None), (5, NameTaken, Object::NewName)),
+    (
+        CreateNet(8, "z", Some((0, 4096))),
+        (14, RangeTooWide, Object::NewName),
+    ),
     (
         CreatePort(0, "z", Dir::Input, Some((7, 0))),
-        "30 TooManyBits module 0",
+        (30, TooManyBits, Object::Module(ModId(0))),
     ),
-    (CreateInst(8, "z", 9), "30 TooManyBits module 9"),
-    (CreateInst(8, "z", 0), "30 TooManyBits module 0"),
-    (CreateInst(8, "a", 9), "5 NameTaken name"),
-    (CreateNet(9, "z", Some((0, 4095))), "User made 1"),
-    (CreateInst(10, "z", 9), "User made 0"),
+    (
+        CreateInst(8, "z", 9),
+        (30, TooManyBits, Object::Module(ModId(9))),
+    ),
+    (
+        CreateInst(8, "z", 0),
+        (30, TooManyBits, Object::Module(ModId(0))),
+    ),
+    (CreateInst(8, "a", 9), (5, NameTaken, Object::NewName)),
 ];
 
 #[test]
-fn the_occurrences_have_at_most_4000000_net_bits(rt: HostRuntime) -> Result<(), Fail> {
-    let mut state = design_of(rt.alloc(), FULL, 8, false)?;
-    for (ask, answer) in BITS {
-        let told = carried(rt.alloc(), &mut state, &edit_of(rt.alloc(), *ask)?)?;
-        assert_eq!(rt; told.as_str(), *answer);
+fn the_occurrences_have_at_most_4000000_net_bits(rt: HostRuntime) -> Result<(), Judged> {
+    let mut state = state_of(rt.alloc(), &FULL)?;
+    for (ask, told) in TOO_WIDE {
+        refuses(&rt, rt.alloc(), &mut state, *ask, *told)?;
     }
-    Ok(())
+    let net = CreateNet(9, "z", Some((0, 4095)));
+    does(&rt, rt.alloc(), &mut state, net, Some(1), &[])?;
+    does(
+        &rt,
+        rt.alloc(),
+        &mut state,
+        CreateInst(10, "z", 9),
+        Some(0),
+        &[],
+    )
 }

@@ -1,64 +1,78 @@
 //! Edits of the worked example, a top of two pairs, each of two inverters in a row.
+use super::asks::Ask;
 use super::asks::Ask::{
     Connect, CreateInst, CreateModule, CreateNet, CreatePort, DeleteModule, DeleteNet, DeletePort,
     Disconnect, Lock, Place, RenameInst, Resize, Uniquify,
 };
-use super::asks::Source::{Net, Tie1};
-use super::asks::{Ask, edit_of};
-use super::designs::{Shape, design_of};
-use super::shown::shown_state;
-use super::{Case, carried, lines, play};
-use emh_base::{Dir, Orient, Placement, Status};
-use std::test::Fail;
+use super::designs::{BARE, Conns, Design, EMPTY, Module, state_of};
+use super::{Done, Refused, is_done, is_now, is_refused, refuses};
+use crate::Judged;
+use emh_base::Rule::{
+    Locked, ModuleInUse, NetInUse, NetIsPort, PortInUse, Recursive, TooManyObjects,
+};
+use emh_base::Src::{Bit, Tie1};
+use emh_base::{Dir, ModId, NetId, Object, Orient, PPort, Placement, Status};
 
-pub const CELL: Shape = Shape {
+pub const IN_AND_OUT: &[PPort] = &[
+    PPort {
+        net: NetId(0),
+        dir: Dir::Input,
+    },
+    PPort {
+        net: NetId(1),
+        dir: Dir::Output,
+    },
+];
+
+pub const INV: Module = Module {
     name: "INV",
     leaf: true,
-    nets: &[("A", None), ("Y", None)],
-    ports: &[(0, Dir::Input), (1, Dir::Output)],
-    insts: &[],
+    nets: &[(0, "A", None), (1, "Y", None)],
+    ports: IN_AND_OUT,
+    next_net: 2,
+    ..EMPTY
 };
 
-pub const BUFFER: Shape = Shape {
+pub const BUF: Module = Module {
+    id: 1,
     name: "BUF",
-    ..CELL
+    ..INV
 };
 
-pub const PAIR_OF_TWO: Shape = Shape {
+/// From net 0 to net 2.
+pub const FRONT: Conns = &[&[Bit(NetId(0), 0)], &[Bit(NetId(2), 0)]];
+
+/// From net 2 to net 1.
+pub const BACK: Conns = &[&[Bit(NetId(2), 0)], &[Bit(NetId(1), 0)]];
+
+pub const PAIR: Module = Module {
+    id: 2,
     name: "pair",
-    leaf: false,
-    nets: &[("a", None), ("y", None), ("m", None)],
-    ports: &[(0, Dir::Input), (1, Dir::Output)],
-    insts: &[
-        ("u1", 0, &[&[Net(0, 0)], &[Net(2, 0)]]),
-        ("u2", 0, &[&[Net(2, 0)], &[Net(1, 0)]]),
-    ],
+    nets: &[(0, "a", None), (1, "y", None), (2, "m", None)],
+    ports: IN_AND_OUT,
+    insts: &[(0, "u1", 0, FRONT), (1, "u2", 0, BACK)],
+    next_net: 3,
+    next_inst: 2,
+    ..EMPTY
 };
 
-pub const TOP_OF_TWO: Shape = Shape {
+pub const TOP: Module = Module {
+    id: 3,
     name: "top",
-    leaf: false,
-    nets: &[("i", None), ("o", None), ("w", None)],
-    ports: &[(0, Dir::Input), (1, Dir::Output)],
-    insts: &[
-        ("p", 2, &[&[Net(0, 0)], &[Net(2, 0)]]),
-        ("q", 2, &[&[Net(2, 0)], &[Net(1, 0)]]),
-    ],
+    nets: &[(0, "i", None), (1, "o", None), (2, "w", None)],
+    ports: IN_AND_OUT,
+    insts: &[(0, "p", 2, FRONT), (1, "q", 2, BACK)],
+    next_net: 3,
+    next_inst: 2,
+    ..EMPTY
 };
 
-const TWO_LEVEL: &[Shape] = &[CELL, BUFFER, PAIR_OF_TWO, TOP_OF_TWO];
-
-pub const INV: &str = "0 INV leaf (0 input, 1 output) [0 A, 1 Y] {} 2 0\n";
-
-pub const BUF: &str = "1 BUF leaf (0 input, 1 output) [0 A, 1 Y] {} 2 0\n";
-
-pub const PAIR: &str =
-    "2 pair (0 input, 1 output) [0 a, 1 y, 2 m] {0 u1:0(0.0, 2.0), 1 u2:0(2.0, 1.0)} 3 2\n";
-
-pub const TOP: &str =
-    "3 top (0 input, 1 output) [0 i, 1 o, 2 w] {0 p:2(0.0, 2.0), 1 q:2(2.0, 1.0)} 3 2\n";
-
-const END: &str = "next 4 top 3";
+const TWO_LEVEL: Design = Design {
+    modules: &[INV, BUF, PAIR, TOP],
+    next_module: 4,
+    top: 3,
+    ..BARE
+};
 
 const CORNER: Placement = Placement {
     x: -2147483648,
@@ -74,162 +88,292 @@ const NEAR: Placement = Placement {
     status: Status::Placed,
 };
 
-const MODULES: &[Case] = &[
+const DONE: &[Done] = &[
     (
-        &[CreateInst(2, "u3", 0)],
-        "User made 2",
-        &[
-            INV,
-            BUF,
-            "2 pair (0 input, 1 output) [0 a, 1 y, 2 m] {0 u1:0(0.0, 2.0), 1 u2:0(2.0, 1.0), 2 u3:0(open, open)} 3 3\n",
-            TOP,
-            END,
-        ],
+        &[],
+        CreateInst(2, "u3", 0),
+        Some(2),
+        &[],
+        Design {
+            modules: &[
+                INV,
+                BUF,
+                Module {
+                    insts: &[
+                        (0, "u1", 0, FRONT),
+                        (1, "u2", 0, BACK),
+                        (2, "u3", 0, &[&[], &[]]),
+                    ],
+                    next_inst: 3,
+                    ..PAIR
+                },
+                TOP,
+            ],
+            ..TWO_LEVEL
+        },
+    ),
+    (
+        &[],
+        Disconnect(3, 1, 0),
+        None,
+        &[&[Bit(NetId(2), 0)]],
+        Design {
+            modules: &[
+                INV,
+                BUF,
+                PAIR,
+                Module {
+                    insts: &[(0, "p", 2, FRONT), (1, "q", 2, &[&[], &[Bit(NetId(1), 0)]])],
+                    ..TOP
+                },
+            ],
+            ..TWO_LEVEL
+        },
     ),
     (
         &[Disconnect(3, 1, 0)],
-        "User was (2.0)",
-        &[
-            INV,
-            BUF,
-            PAIR,
-            "3 top (0 input, 1 output) [0 i, 1 o, 2 w] {0 p:2(0.0, 2.0), 1 q:2(open, 1.0)} 3 2\n",
-            END,
-        ],
+        Connect(3, 1, 0, &[Bit(NetId(2), 0)]),
+        None,
+        &[&[]],
+        TWO_LEVEL,
     ),
     (
-        &[Disconnect(3, 1, 0), Connect(3, 1, 0, &[Net(2, 0)])],
-        "User was (open)",
-        &[INV, BUF, PAIR, TOP, END],
+        &[],
+        Connect(3, 0, 0, &[Tie1]),
+        None,
+        &[&[Bit(NetId(0), 0)]],
+        Design {
+            modules: &[
+                INV,
+                BUF,
+                PAIR,
+                Module {
+                    insts: &[
+                        (0, "p", 2, &[&[Tie1], &[Bit(NetId(2), 0)]]),
+                        (1, "q", 2, BACK),
+                    ],
+                    ..TOP
+                },
+            ],
+            ..TWO_LEVEL
+        },
     ),
     (
-        &[Connect(3, 0, 0, &[Tie1])],
-        "User was (0.0)",
-        &[
-            INV,
-            BUF,
-            PAIR,
-            "3 top (0 input, 1 output) [0 i, 1 o, 2 w] {0 p:2(=1, 2.0), 1 q:2(2.0, 1.0)} 3 2\n",
-            END,
-        ],
+        &[Place(&[1, 0], CORNER)],
+        Resize(2, 0, 1),
+        None,
+        &[],
+        Design {
+            modules: &[
+                INV,
+                BUF,
+                Module {
+                    insts: &[(0, "u1", 1, FRONT), (1, "u2", 0, BACK)],
+                    ..PAIR
+                },
+                TOP,
+            ],
+            places: &[(&[1, 0], CORNER)],
+            ..TWO_LEVEL
+        },
     ),
     (
-        &[CreateNet(2, "z", None), Lock(2), CreateNet(2, "v", None)],
-        "24 Locked module 2",
-        &[
-            INV,
-            BUF,
-            "2 pair locked (0 input, 1 output) [0 a, 1 y, 2 m, 3 z] {0 u1:0(0.0, 2.0), 1 u2:0(2.0, 1.0)} 4 2\n",
-            TOP,
-            END,
-        ],
+        &[Place(&[1, 0], NEAR), Uniquify(3, 1, "pair_q")],
+        RenameInst(4, 0, "v1"),
+        None,
+        &[],
+        Design {
+            modules: &[
+                INV,
+                BUF,
+                PAIR,
+                Module {
+                    insts: &[(0, "p", 2, FRONT), (1, "q", 4, BACK)],
+                    ..TOP
+                },
+                Module {
+                    id: 4,
+                    name: "pair_q",
+                    insts: &[(0, "v1", 0, FRONT), (1, "u2", 0, BACK)],
+                    ..PAIR
+                },
+            ],
+            next_module: 5,
+            places: &[(&[1, 0], NEAR)],
+            ..TWO_LEVEL
+        },
     ),
 ];
 
-const PLACES: &[Case] = &[
-    (
-        &[Place(&[1, 0], CORNER), Resize(2, 0, 1)],
-        "User",
-        &[
-            INV,
-            BUF,
-            "2 pair (0 input, 1 output) [0 a, 1 y, 2 m] {0 u1:1(0.0, 2.0), 1 u2:0(2.0, 1.0)} 3 2\n",
-            TOP,
-            "next 4 top 3 at 1 0: -2147483648 2147483647 MXR90 Placed",
-        ],
-    ),
-    (
-        &[
-            Place(&[1, 0], NEAR),
-            Uniquify(3, 1, "pair_q"),
-            RenameInst(4, 0, "v1"),
-        ],
-        "User",
-        &[
-            INV,
-            BUF,
-            PAIR,
-            "3 top (0 input, 1 output) [0 i, 1 o, 2 w] {0 p:2(0.0, 2.0), 1 q:4(2.0, 1.0)} 3 2\n",
-            "4 pair_q (0 input, 1 output) [0 a, 1 y, 2 m] {0 v1:0(0.0, 2.0), 1 u2:0(2.0, 1.0)} 3 2\n",
-            "next 5 top 3 at 1 0: 5 6 R0 Placed",
-        ],
-    ),
-];
+/// Three modules, each to hold the next.
+const RING: Design = Design {
+    modules: &[
+        INV,
+        BUF,
+        PAIR,
+        TOP,
+        Module {
+            id: 4,
+            name: "a",
+            insts: &[(0, "x", 5, &[])],
+            next_inst: 1,
+            ..EMPTY
+        },
+        Module {
+            id: 5,
+            name: "b",
+            insts: &[(0, "x", 6, &[])],
+            next_inst: 1,
+            ..EMPTY
+        },
+        Module {
+            id: 6,
+            name: "c",
+            ..EMPTY
+        },
+    ],
+    next_module: 7,
+    ..TWO_LEVEL
+};
 
-const REFUSED: &[Case] = &[
+/// Edits that are refused, each with the design that it leaves as it is.
+const REFUSED: &[(Refused, Design)] = &[
     (
-        &[
-            CreateModule("a"),
-            CreateModule("b"),
-            CreateModule("c"),
-            CreateInst(4, "x", 5),
-            CreateInst(5, "x", 6),
+        (
+            &[CreateNet(2, "z", None), Lock(2)],
+            CreateNet(2, "v", None),
+            (24, Locked, Object::Module(ModId(2))),
+        ),
+        Design {
+            modules: &[
+                INV,
+                BUF,
+                Module {
+                    locked: true,
+                    nets: &[
+                        (0, "a", None),
+                        (1, "y", None),
+                        (2, "m", None),
+                        (3, "z", None),
+                    ],
+                    next_net: 4,
+                    ..PAIR
+                },
+                TOP,
+            ],
+            ..TWO_LEVEL
+        },
+    ),
+    (
+        (
+            &[
+                CreateModule("a"),
+                CreateModule("b"),
+                CreateModule("c"),
+                CreateInst(4, "x", 5),
+                CreateInst(5, "x", 6),
+            ],
             CreateInst(6, "x", 4),
-        ],
-        "11 Recursive module 4",
-        &[
-            INV,
-            BUF,
-            PAIR,
-            TOP,
-            "4 a () [] {0 x:5()} 0 1\n",
-            "5 b () [] {0 x:6()} 0 1\n",
-            "6 c () [] {} 0 0\n",
-            "next 7 top 3",
-        ],
+            (11, Recursive, Object::Module(ModId(4))),
+        ),
+        RING,
     ),
     (
-        &[DeletePort(3, 0)],
-        "7 NetInUse port 3 0",
-        &[INV, BUF, PAIR, TOP, END],
+        (
+            &[],
+            DeletePort(3, 0),
+            (7, NetInUse, Object::Port(ModId(3), NetId(0))),
+        ),
+        TWO_LEVEL,
     ),
     (
-        &[DeletePort(2, 0)],
-        "16 PortInUse port 2 0",
-        &[INV, BUF, PAIR, TOP, END],
+        (
+            &[],
+            DeletePort(2, 0),
+            (16, PortInUse, Object::Port(ModId(2), NetId(0))),
+        ),
+        TWO_LEVEL,
     ),
     (
-        &[DeleteNet(3, 0)],
-        "15 NetIsPort net 3 0",
-        &[INV, BUF, PAIR, TOP, END],
+        (
+            &[],
+            DeleteNet(3, 0),
+            (15, NetIsPort, Object::Net(ModId(3), NetId(0))),
+        ),
+        TWO_LEVEL,
     ),
     (
-        &[DeleteModule(2)],
-        "8 ModuleInUse module 2",
-        &[INV, BUF, PAIR, TOP, END],
+        (
+            &[],
+            DeleteModule(2),
+            (8, ModuleInUse, Object::Module(ModId(2))),
+        ),
+        TWO_LEVEL,
     ),
 ];
 
 #[test]
-fn edits_of_the_worked_example(rt: HostRuntime) -> Result<(), Fail> {
-    for cases in [MODULES, PLACES, REFUSED] {
-        for (asks, answer, state) in cases {
-            let (told, made) = play(rt.alloc(), TWO_LEVEL, asks)?;
-            assert_eq!(rt; told.as_str(), *answer);
-            assert_eq!(rt; made.as_str(), lines(rt.alloc(), state)?.as_str());
-        }
+fn edits_of_the_worked_example(rt: HostRuntime) -> Result<(), Judged> {
+    for case in DONE {
+        is_done(&rt, rt.alloc(), &TWO_LEVEL, case)?;
+    }
+    for (case, after) in REFUSED {
+        let state = is_refused(&rt, rt.alloc(), &TWO_LEVEL, case)?;
+        is_now(&rt, rt.alloc(), &state, after)?;
     }
     Ok(())
 }
 
+/// The worked example with each counter at its end.
+const SPENT: Design = Design {
+    modules: &[
+        Module {
+            next_net: 4294967295,
+            next_inst: 4294967295,
+            ..INV
+        },
+        Module {
+            next_net: 4294967295,
+            next_inst: 4294967295,
+            ..BUF
+        },
+        Module {
+            next_net: 4294967295,
+            next_inst: 4294967295,
+            ..PAIR
+        },
+        Module {
+            next_net: 4294967295,
+            next_inst: 4294967295,
+            ..TOP
+        },
+    ],
+    next_module: 4294967295,
+    ..TWO_LEVEL
+};
+
+const NO_MORE: &[(Ask, Object)] = &[
+    (CreateModule("z"), Object::NewName),
+    (CreateNet(3, "z", None), Object::Module(ModId(3))),
+    (
+        CreatePort(2, "z", Dir::Input, None),
+        Object::Module(ModId(2)),
+    ),
+    (CreateInst(3, "z", 1), Object::Module(ModId(3))),
+    (Uniquify(3, 1, "z"), Object::NewName),
+];
+
 #[test]
-fn a_counter_at_its_end_gives_no_id(rt: HostRuntime) -> Result<(), Fail> {
-    let asks: [(Ask, &str); 5] = [
-        (CreateModule("z"), "31 TooManyObjects name"),
-        (CreateNet(3, "z", None), "31 TooManyObjects module 3"),
-        (
-            CreatePort(2, "z", Dir::Input, None),
-            "31 TooManyObjects module 2",
-        ),
-        (CreateInst(3, "z", 1), "31 TooManyObjects module 3"),
-        (Uniquify(3, 1, "z"), "31 TooManyObjects name"),
-    ];
-    let mut state = design_of(rt.alloc(), TWO_LEVEL, 3, true)?;
-    let before = shown_state(rt.alloc(), &state)?;
-    for (ask, answer) in asks {
-        let told = carried(rt.alloc(), &mut state, &edit_of(rt.alloc(), ask)?)?;
-        assert_eq!(rt; told.as_str(), answer);
+fn a_counter_at_its_end_gives_no_id(rt: HostRuntime) -> Result<(), Judged> {
+    let mut state = state_of(rt.alloc(), &SPENT)?;
+    for (ask, object) in NO_MORE {
+        refuses(
+            &rt,
+            rt.alloc(),
+            &mut state,
+            *ask,
+            (31, TooManyObjects, *object),
+        )?;
     }
-    assert_eq!(rt; shown_state(rt.alloc(), &state)?.as_str(), before.as_str());
     Ok(())
 }
