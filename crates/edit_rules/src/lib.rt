@@ -27,7 +27,4 @@ pub use apply::apply_plain;
 pub use facts::{Counters, Facts, Spot, Totals};
 pub use good::is_good_state;
 pub use judged::{Judged, Need, judge};
-pub use laws::worked_edits;
-
-#[cfg(test)]
-mod tests;
+pub use laws::{each_edit_stays_good, worked_edits};

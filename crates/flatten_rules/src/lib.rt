@@ -30,9 +30,6 @@ pub use laws::{each_block_net, each_text_once, each_walk_once, two_level_unfolds
 pub use limits::is_within;
 pub use lines::flat_lines;
 pub use lookup::{find, module_of, net_of, place_of_module, port_of, width};
-pub use numbered::{Numbered, place_of};
+pub use numbered::{Numbered, place_of, rises};
 pub use root::Root;
 pub use soundness::is_sound;
-
-#[cfg(test)]
-mod tests;

@@ -59,7 +59,7 @@ fn first_from<T: Numbered>(items: &[T], number: u32) -> usize
 }
 
 /// Whether the numbers of the items rise, and end below a counter.
-pub(crate) fn rises<T: Numbered>(items: &[T], counter: u32) -> bool
+pub fn rises<T: Numbered>(items: &[T], counter: u32) -> bool
     ensures { IsTrue result ↔ (AllPairs (λ a b. T.number_of a < T.number_of b) items.now
         × All (λ item. T.number_of item < counter) items.now) }
 {

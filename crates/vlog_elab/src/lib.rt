@@ -24,6 +24,3 @@ mod table;
 pub use elaborate::elab;
 pub use fault::{ElabFault, ElabKind};
 pub use law::one_elaboration;
-
-#[cfg(test)]
-mod tests;

@@ -3,13 +3,13 @@ ghost use Rattle.flatten_rules.specs.Lookup.{module_of};
 ghost use Rattle.flatten_rules.specs.Design.{IsInner, IsGood};
 ghost use Rattle.flatten_rules.specs.Sound.{IsSound};
 
+use super::builder::{EMPTY, Module, table_of};
 use super::shown::shown;
-use super::tables::{EMPTY, Module, table_of};
-use crate::{flat_lines, fresh, is_sound, is_within, module_of};
 use emh_base::{
     Dir, InstId, List, ModId, NetId, NoMemory, Orient, Path, Placement, Places, Plain, Range, Src,
     Status,
 };
+use flatten_rules::{flat_lines, fresh, is_sound, is_within, module_of};
 use std::alloc::Global;
 use std::str::from_utf8;
 use std::test::Fail;

@@ -5,12 +5,12 @@ ghost use Rattle.flatten_rules.specs.Design.{IsInner};
 ghost use Rattle.flatten_rules.specs.Sound.{IsSound};
 
 use super::shown::{empty_table, shown};
-use crate::elab;
 use emh_base::{ModId, Path, Places, Plain};
 use flatten_rules::{Fresh, FreshPin, Root, fresh, is_sound, is_within, module_of};
 use std::alloc::Global;
 use std::fmt::Write;
 use std::test::Fail;
+use vlog_elab::elab;
 use vlog_lex::{FILE_LIMIT, tokens};
 use vlog_read::parse;
 

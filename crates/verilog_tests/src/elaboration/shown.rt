@@ -1,11 +1,11 @@
 //! A table or a fault as a line of text.
-use crate::{ElabFault, elab};
 use emh_base::{Conn, Dir, List, PInst, PModule, PNet, Plain, Range, Src};
 use flatten_rules::is_sound;
 use std::alloc::Global;
 use std::fmt::Write;
 use std::str::from_utf8;
 use std::test::Fail;
+use vlog_elab::{ElabFault, elab};
 use vlog_lex::{FILE_LIMIT, tokens};
 use vlog_read::parse;
 

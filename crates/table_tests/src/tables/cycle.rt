@@ -2,10 +2,9 @@ ghost use Rattle.std.specs.Prelude.{◌<◌, ◌↔◌, IsTrue, All, AllPairs};
 ghost use Rattle.emh_base.specs.declared.plain.PInst.{PInst};
 ghost use Rattle.flatten_rules.specs.Lookup.{InstsRise};
 
-use super::tables::{add, chain_down, empty_table};
-use crate::first_on_cycle;
-use crate::numbered::rises;
+use super::builder::{add, chain_down, empty_table};
 use emh_base::{PModule, Plain};
+use flatten_rules::{first_on_cycle, rises};
 use std::alloc::Global;
 use std::test::Fail;
 

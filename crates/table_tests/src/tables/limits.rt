@@ -1,8 +1,8 @@
 ghost use Rattle.std.specs.Prelude.{◌<◌, ◌≤◌};
 
-use super::tables::{EMPTY, Module, add, chain_down, empty_table, table_of};
-use crate::{is_sound, is_within};
+use super::builder::{EMPTY, Module, add, chain_down, empty_table, table_of};
 use emh_base::{Dir, ModId, NoMemory, Plain, Range};
+use flatten_rules::{is_sound, is_within};
 use std::alloc::Global;
 use std::test::Fail;
 

@@ -1,12 +1,12 @@
 //! What a table unfolds to, as text.
-use crate::{Fresh, FreshBit, FreshInst, FreshOcc, FreshPin, Root};
 use emh_base::Path;
+use flatten_rules::{Fresh, FreshBit, FreshInst, FreshOcc, FreshPin, Root};
 use std::alloc::Global;
 use std::fmt::Write;
 use std::test::Fail;
 
 /// The four lists, a line each.
-pub(crate) fn shown(alloc: Global, made: &Fresh) -> Result<String, Fail> {
+pub fn shown(alloc: Global, made: &Fresh) -> Result<String, Fail> {
     let mut text = String::new(alloc);
     show_occs(&mut text, made.occs.as_slice())?;
     show_bits(&mut text, made.bits.as_slice())?;

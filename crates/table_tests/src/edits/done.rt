@@ -8,7 +8,7 @@ use super::designs::{Design, EMPTY, Module};
 use super::rows::{BACK, BUF, FRONT, INV, PAIR, TOP};
 use super::yard::{GATE, INPUT, LEFT, SPARE, SPOT, STUCK, TIED, WIDE, YARD};
 use super::{Done, is_done};
-use crate::Judged;
+use edit_rules::Judged;
 use emh_base::Src::{Bit, Tie0, Tie1};
 use emh_base::{Dir, Fanout, ModId, NetId, PPort, Settings};
 

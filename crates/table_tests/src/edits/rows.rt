@@ -6,7 +6,7 @@ use super::asks::Ask::{
 };
 use super::designs::{BARE, Conns, Design, EMPTY, Module, state_of};
 use super::{Done, Refused, is_done, is_now, is_refused, refuses};
-use crate::Judged;
+use edit_rules::Judged;
 use emh_base::Rule::{
     Locked, ModuleInUse, NetInUse, NetIsPort, PortInUse, Recursive, TooManyObjects,
 };

@@ -6,13 +6,13 @@ use emh_base::{
 use std::alloc::Global;
 
 /// A net's id, its name and its range.
-pub(crate) type Net = (u32, &'static str, Option<Range>);
+pub type Net = (u32, &'static str, Option<Range>);
 
 /// An instance's id, its name, its master and the sources at each port, which is open where there are none.
-pub(crate) type Inst = (u32, &'static str, u32, &'static [&'static [Src]]);
+pub type Inst = (u32, &'static str, u32, &'static [&'static [Src]]);
 
 /// A module. A port is told by the id of its net.
-pub(crate) struct Module {
+pub struct Module {
     pub id: u32,
     pub name: &'static str,
     pub leaf: bool,
@@ -25,7 +25,7 @@ pub(crate) struct Module {
 }
 
 /// A module that holds nothing.
-pub(crate) const EMPTY: Module = Module {
+pub const EMPTY: Module = Module {
     id: 0,
     name: "",
     leaf: false,
@@ -38,11 +38,7 @@ pub(crate) const EMPTY: Module = Module {
 };
 
 /// The table of some modules.
-pub(crate) fn table_of(
-    alloc: Global,
-    shapes: &[Module],
-    next_module: u32,
-) -> Result<Plain, NoMemory> {
+pub fn table_of(alloc: Global, shapes: &[Module], next_module: u32) -> Result<Plain, NoMemory> {
     let mut modules = List::new(alloc);
     for shape in shapes {
         modules.push(module_of(alloc, shape)?)?;
@@ -130,7 +126,7 @@ fn conn_of(alloc: Global, sources: &[Src]) -> Result<Conn, NoMemory> {
 }
 
 /// A table that many modules fit in, and has none.
-pub(crate) fn empty_table(alloc: Global) -> Plain {
+pub fn empty_table(alloc: Global) -> Plain {
     Plain {
         modules: List::new(alloc),
         next_module: 100_000,
@@ -138,12 +134,7 @@ pub(crate) fn empty_table(alloc: Global) -> Plain {
 }
 
 /// Puts a module last that has an instance of each master, none of which has ports. Names are numbers.
-pub(crate) fn add(
-    alloc: Global,
-    plain: &mut Plain,
-    id: u32,
-    masters: &[u32],
-) -> Result<(), NoMemory> {
+pub fn add(alloc: Global, plain: &mut Plain, id: u32, masters: &[u32]) -> Result<(), NoMemory> {
     plain.modules.push(PModule {
         id: ModId(id),
         name: name_of(alloc, id.to_string(alloc)?.as_str())?,
@@ -173,7 +164,7 @@ fn insts_by_masters(alloc: Global, masters: &[u32]) -> Result<List<PInst>, NoMem
 }
 
 /// Modules from 0 on, each with an instance of the next one, and the last one with these masters.
-pub(crate) fn chain_down(alloc: Global, links: u32, last: &[u32]) -> Result<Plain, NoMemory> {
+pub fn chain_down(alloc: Global, links: u32, last: &[u32]) -> Result<Plain, NoMemory> {
     let mut plain = empty_table(alloc);
     for link in 0..links {
         add(alloc, &mut plain, link, &[link + 1])?;

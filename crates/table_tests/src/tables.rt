@@ -1,6 +1,6 @@
+mod builder;
 mod cycle;
 mod designs;
 mod limits;
 mod shown;
 mod sound;
-mod tables;

@@ -1,6 +1,6 @@
-use super::tables::{EMPTY, Inst, Module, Net, table_of};
-use crate::is_sound;
+use super::builder::{EMPTY, Inst, Module, Net, table_of};
 use emh_base::{Dir, NetId, NoMemory, Range, Src};
+use flatten_rules::is_sound;
 use std::alloc::Global;
 use std::test::Fail;
 

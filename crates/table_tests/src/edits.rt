@@ -7,9 +7,9 @@ mod rows;
 mod same;
 mod yard;
 
-use crate::{Judged, apply_plain, is_good_state, judge};
 use asks::{Ask, edit_of};
 use designs::{Conns, Design, conns_of, state_of};
+use edit_rules::{Judged, apply_plain, is_good_state, judge};
 use emh_base::{By, Change, NoMemory, Object, Refusal, Rule, State, TryCopy};
 use same::{same_conns, same_state};
 use std::alloc::Global;

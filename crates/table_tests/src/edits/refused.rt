@@ -6,7 +6,7 @@ use super::asks::Ask::{
 };
 use super::yard::{SPOT, STUCK, YARD};
 use super::{Refused, Told, is_refused};
-use crate::Judged;
+use edit_rules::Judged;
 use emh_base::Rule::{
     AlreadyOpen, BadBuffer, BadNumber, BitOutOfRange, IsCell, IsFixed, IsTop, Locked, ModuleInUse,
     NameTaken, NetInUse, NetIsPort, NoSuchInst, NoSuchModule, NoSuchNet, NoSuchOccurrence,
