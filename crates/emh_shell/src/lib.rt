@@ -24,6 +24,3 @@ pub use laws::{each_session_once, two_level_pins};
 pub use play::run;
 pub use reply::LoadReply;
 pub use stand::Stand;
-
-#[cfg(test)]
-mod tests;

@@ -1,8 +1,8 @@
 mod reading;
 
-use crate::run;
 use emh_base::List;
 use emh_io::{Held, MemShelf, MemSink, SureShelf, SureSink, are_distinct};
+use emh_shell::run;
 use std::alloc::Global;
 use std::test::Fail;
 
