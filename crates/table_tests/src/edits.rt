@@ -7,8 +7,9 @@ mod rows;
 mod same;
 mod yard;
 
+use crate::modules::{Conns, conns_of};
 use asks::{Ask, edit_of};
-use designs::{Conns, Design, conns_of, state_of};
+use designs::{Design, state_of};
 use edit_rules::{Judged, apply_plain, is_good_state, judge};
 use emh_base::{By, Change, NoMemory, Object, Refusal, Rule, State, TryCopy};
 use same::{same_conns, same_state};

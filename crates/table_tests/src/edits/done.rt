@@ -4,13 +4,14 @@ use super::asks::Ask::{
     DeletePort, Disconnect, Lock, Place, RenameInst, RenameModule, RenameNet, Resize, SetFanout,
     SetGrid, Uniquify, Unlock, Unplace,
 };
-use super::designs::{Design, EMPTY, Module};
+use super::designs::Design;
 use super::rows::{BACK, BUF, FRONT, INV, PAIR, TOP};
 use super::yard::{GATE, INPUT, LEFT, SPARE, SPOT, STUCK, TIED, WIDE, YARD};
 use super::{Done, is_done};
+use crate::modules::{EMPTY, Module};
 use edit_rules::Judged;
 use emh_base::Src::{Bit, Tie0, Tie1};
-use emh_base::{Dir, Fanout, ModId, NetId, PPort, Settings};
+use emh_base::{Dir, Fanout, ModId, NetId, Settings};
 
 const MODULES: &[Done] = &[
     (
@@ -265,17 +266,7 @@ const NETS: &[Done] = &[
                         (2, "m", None),
                         (3, "z", Some((1, 0))),
                     ],
-                    ports: &[
-                        INPUT,
-                        PPort {
-                            net: NetId(1),
-                            dir: Dir::Output,
-                        },
-                        PPort {
-                            net: NetId(3),
-                            dir: Dir::Inout,
-                        },
-                    ],
+                    ports: &[INPUT, (1, Dir::Output), (3, Dir::Inout)],
                     next_net: 4,
                     ..PAIR
                 },
@@ -310,10 +301,7 @@ const NETS: &[Done] = &[
                 BUF,
                 Module {
                     nets: &[(1, "y", None), (2, "m", None)],
-                    ports: &[PPort {
-                        net: NetId(1),
-                        dir: Dir::Output,
-                    }],
+                    ports: &[(1, Dir::Output)],
                     insts: &[
                         (0, "u1", 0, &[&[], &[Bit(NetId(2), 0)]]),
                         (1, "u2", 0, BACK),

@@ -1,8 +1,9 @@
 //! Edits at the limits.
 use super::asks::Ask;
 use super::asks::Ask::{CreateInst, CreateNet, CreatePort};
-use super::designs::{BARE, Design, EMPTY, Module, name_of, state_of};
+use super::designs::{BARE, Design, state_of};
 use super::{Told, does, refuses};
+use crate::modules::{EMPTY, Module, name_of};
 use edit_rules::Judged;
 use emh_base::Rule::{NameTaken, RangeTooWide, TooDeep, TooManyBits, TooManyOccurrences};
 use emh_base::{Dir, InstId, List, ModId, NoMemory, Object, PInst, PModule, State};

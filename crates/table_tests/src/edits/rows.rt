@@ -4,25 +4,17 @@ use super::asks::Ask::{
     Connect, CreateInst, CreateModule, CreateNet, CreatePort, DeleteModule, DeleteNet, DeletePort,
     Disconnect, Lock, Place, RenameInst, Resize, Uniquify,
 };
-use super::designs::{BARE, Conns, Design, EMPTY, Module, state_of};
+use super::designs::{BARE, Design, state_of};
 use super::{Done, Refused, is_done, is_now, is_refused, refuses};
+use crate::modules::{Conns, EMPTY, Module, Port};
 use edit_rules::Judged;
 use emh_base::Rule::{
     Locked, ModuleInUse, NetInUse, NetIsPort, PortInUse, Recursive, TooManyObjects,
 };
 use emh_base::Src::{Bit, Tie1};
-use emh_base::{Dir, ModId, NetId, Object, Orient, PPort, Placement, Status};
+use emh_base::{Dir, ModId, NetId, Object, Orient, Placement, Status};
 
-pub const IN_AND_OUT: &[PPort] = &[
-    PPort {
-        net: NetId(0),
-        dir: Dir::Input,
-    },
-    PPort {
-        net: NetId(1),
-        dir: Dir::Output,
-    },
-];
+pub const IN_AND_OUT: &[Port] = &[(0, Dir::Input), (1, Dir::Output)];
 
 pub const INV: Module = Module {
     name: "INV",

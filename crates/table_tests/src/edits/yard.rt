@@ -1,30 +1,18 @@
 //! The worked example, with more cells and a module that the top doesn't reach.
-use super::designs::{BARE, Conns, Design, EMPTY, Module};
+use super::designs::{BARE, Design};
 use super::rows::{BUF, IN_AND_OUT, INV, PAIR, TOP};
+use crate::modules::{Conns, EMPTY, Module, Port};
 use emh_base::Src::{Bit, Tie1};
-use emh_base::{Dir, NetId, Orient, PPort, Placement, Status};
+use emh_base::{Dir, NetId, Orient, Placement, Status};
 
-pub const INPUT: PPort = PPort {
-    net: NetId(0),
-    dir: Dir::Input,
-};
+pub const INPUT: Port = (0, Dir::Input);
 
 pub const GATE: Module = Module {
     id: 4,
     name: "GATE",
     leaf: true,
     nets: &[(0, "A", None), (1, "B", None), (2, "Y", None)],
-    ports: &[
-        INPUT,
-        PPort {
-            net: NetId(1),
-            dir: Dir::Input,
-        },
-        PPort {
-            net: NetId(2),
-            dir: Dir::Output,
-        },
-    ],
+    ports: &[INPUT, (1, Dir::Input), (2, Dir::Output)],
     next_net: 3,
     ..EMPTY
 };

@@ -1,128 +1,21 @@
-//! Tables as constants, and large ones by numbers.
-use emh_base::{
-    Conn, Dir, InstId, List, ModId, Name, NetId, NoMemory, PInst, PModule, PNet, PPort, Plain,
-    Range, Src,
-};
+//! Tables of modules, and large ones by numbers.
+use crate::modules::{Module, modules_of, name_of};
+use emh_base::{InstId, List, ModId, NoMemory, PInst, PModule, Plain};
 use std::alloc::Global;
 
-/// A net's id, its name and its range.
-pub type Net = (u32, &'static str, Option<Range>);
-
-/// An instance's id, its name, its master and the sources at each port, which is open where there are none.
-pub type Inst = (u32, &'static str, u32, &'static [&'static [Src]]);
-
-/// A module. A port is told by the id of its net.
-pub struct Module {
-    pub id: u32,
-    pub name: &'static str,
-    pub leaf: bool,
-    pub locked: bool,
-    pub nets: &'static [Net],
-    pub ports: &'static [(u32, Dir)],
-    pub insts: &'static [Inst],
-    pub next_net: u32,
-    pub next_inst: u32,
-}
-
-/// A module that holds nothing.
+/// A module that holds nothing, with counters that many objects come before.
 pub const EMPTY: Module = Module {
-    id: 0,
-    name: "",
-    leaf: false,
-    locked: false,
-    nets: &[],
-    ports: &[],
-    insts: &[],
     next_net: 10,
     next_inst: 10,
+    ..crate::modules::EMPTY
 };
 
 /// The table of some modules.
-pub fn table_of(alloc: Global, shapes: &[Module], next_module: u32) -> Result<Plain, NoMemory> {
-    let mut modules = List::new(alloc);
-    for shape in shapes {
-        modules.push(module_of(alloc, shape)?)?;
-    }
+pub fn table_of(alloc: Global, modules: &[Module], next_module: u32) -> Result<Plain, NoMemory> {
     Ok(Plain {
-        modules,
+        modules: modules_of(alloc, modules)?,
         next_module,
     })
-}
-
-fn module_of(alloc: Global, shape: &Module) -> Result<PModule, NoMemory> {
-    Ok(PModule {
-        id: ModId(shape.id),
-        name: name_of(alloc, shape.name)?,
-        leaf: shape.leaf,
-        locked: shape.locked,
-        nets: nets_of(alloc, shape.nets)?,
-        ports: ports_of(alloc, shape.ports)?,
-        insts: insts_of(alloc, shape.insts)?,
-        next_net: shape.next_net,
-        next_inst: shape.next_inst,
-    })
-}
-
-fn name_of(alloc: Global, text: &str) -> Result<Name, NoMemory> {
-    match Name::new(alloc, text.as_bytes()) {
-        Ok(name) => Ok(name),
-        Err(_) => Err(NoMemory),
-    }
-}
-
-fn nets_of(alloc: Global, shapes: &[Net]) -> Result<List<PNet>, NoMemory> {
-    let mut nets = List::new(alloc);
-    for (id, name, range) in shapes {
-        nets.push(PNet {
-            id: NetId(*id),
-            name: name_of(alloc, name)?,
-            range: *range,
-        })?;
-    }
-    Ok(nets)
-}
-
-fn ports_of(alloc: Global, shapes: &[(u32, Dir)]) -> Result<List<PPort>, NoMemory> {
-    let mut ports = List::new(alloc);
-    for (net, dir) in shapes {
-        ports.push(PPort {
-            net: NetId(*net),
-            dir: *dir,
-        })?;
-    }
-    Ok(ports)
-}
-
-fn insts_of(alloc: Global, shapes: &[Inst]) -> Result<List<PInst>, NoMemory> {
-    let mut insts = List::new(alloc);
-    for (id, name, master, ports) in shapes {
-        insts.push(PInst {
-            id: InstId(*id),
-            name: name_of(alloc, name)?,
-            master: ModId(*master),
-            conns: conns_of(alloc, ports)?,
-        })?;
-    }
-    Ok(insts)
-}
-
-fn conns_of(alloc: Global, ports: &[&[Src]]) -> Result<List<Conn>, NoMemory> {
-    let mut conns = List::new(alloc);
-    for sources in ports {
-        conns.push(conn_of(alloc, sources)?)?;
-    }
-    Ok(conns)
-}
-
-fn conn_of(alloc: Global, sources: &[Src]) -> Result<Conn, NoMemory> {
-    if sources.is_empty() {
-        return Ok(Conn::Open);
-    }
-    let mut bits = List::new(alloc);
-    for source in sources {
-        bits.push(*source)?;
-    }
-    Ok(Conn::Bits(bits))
 }
 
 /// A table that many modules fit in, and has none.

@@ -3,11 +3,11 @@ ghost use Rattle.flatten_rules.specs.Lookup.{module_of};
 ghost use Rattle.flatten_rules.specs.Design.{IsInner, IsGood};
 ghost use Rattle.flatten_rules.specs.Sound.{IsSound};
 
-use super::builder::{EMPTY, Module, table_of};
+use super::builder::{EMPTY, table_of};
 use super::shown::shown;
+use crate::modules::{Module, Port};
 use emh_base::{
-    Dir, InstId, List, ModId, NetId, NoMemory, Orient, Path, Placement, Places, Plain, Range, Src,
-    Status,
+    Dir, InstId, List, ModId, NetId, NoMemory, Orient, Path, Placement, Places, Plain, Src, Status,
 };
 use flatten_rules::{flat_lines, fresh, is_sound, is_within, module_of};
 use std::alloc::Global;
@@ -34,7 +34,7 @@ const NET_1: Src = Src::Bit(NetId(1), 0);
 
 const NET_2: Src = Src::Bit(NetId(2), 0);
 
-const IN_0_OUT_1: &[(u32, Dir)] = &[(0, Dir::Input), (1, Dir::Output)];
+const IN_0_OUT_1: &[Port] = &[(0, Dir::Input), (1, Dir::Output)];
 
 /// The worked example: a top of two pairs, each of two inverters in a row, and a cell that isn't used.
 const TWO_LEVEL: &[Module] = &[
@@ -84,7 +84,7 @@ const MIXED: &[Module] = &[
     Module {
         id: 0,
         name: "top",
-        nets: &[(0, "n", Some(Range { left: 0, right: 2 })), (1, "z", None)],
+        nets: &[(0, "n", Some((0, 2))), (1, "z", None)],
         ports: &[(1, Dir::Inout)],
         insts: &[
             (5, "c", 4, &[&[Src::Tie1], &[NET_0_2, Src::Tie0]]),
@@ -98,7 +98,7 @@ const MIXED: &[Module] = &[
         id: 4,
         name: "C",
         leaf: true,
-        nets: &[(0, "A", Some(Range { left: 1, right: 0 })), (1, "B", None)],
+        nets: &[(0, "A", Some((1, 0))), (1, "B", None)],
         ports: &[(1, Dir::Input), (0, Dir::Input)],
         ..EMPTY
     },
@@ -119,14 +119,14 @@ const CROSSED: &[Module] = &[
         id: 0,
         name: "LATCH",
         leaf: true,
-        nets: &[(0, "D", Some(Range { left: 1, right: 0 })), (1, "Q", None)],
+        nets: &[(0, "D", Some((1, 0))), (1, "Q", None)],
         ports: IN_0_OUT_1,
         ..EMPTY
     },
     Module {
         id: 1,
         name: "inner",
-        nets: &[(0, "x", Some(Range { left: 0, right: 1 })), (1, "z", None)],
+        nets: &[(0, "x", Some((0, 1))), (1, "z", None)],
         ports: IN_0_OUT_1,
         insts: &[(0, "l", 0, &[&[NET_0_1, NET_0], &[NET_1]])],
         ..EMPTY
@@ -134,7 +134,7 @@ const CROSSED: &[Module] = &[
     Module {
         id: 2,
         name: "middle",
-        nets: &[(0, "s", Some(Range { left: 2, right: 1 })), (1, "t", None)],
+        nets: &[(0, "s", Some((2, 1))), (1, "t", None)],
         ports: IN_0_OUT_1,
         insts: &[(0, "k", 1, &[&[NET_0_1, NET_0], &[NET_1]])],
         ..EMPTY
@@ -142,10 +142,7 @@ const CROSSED: &[Module] = &[
     Module {
         id: 3,
         name: "top",
-        nets: &[
-            (0, "bus", Some(Range { left: 7, right: 6 })),
-            (1, "out", None),
-        ],
+        nets: &[(0, "bus", Some((7, 6))), (1, "out", None)],
         ports: IN_0_OUT_1,
         insts: &[
             (0, "u[0]", 2, &[&[NET_0_1, NET_0], &[NET_1]]),

@@ -1,7 +1,8 @@
 ghost use Rattle.std.specs.Prelude.{◌<◌, ◌≤◌};
 
-use super::builder::{EMPTY, Module, add, chain_down, empty_table, table_of};
-use emh_base::{Dir, ModId, NoMemory, Plain, Range};
+use super::builder::{EMPTY, add, chain_down, empty_table, table_of};
+use crate::modules::{Ends, Module};
+use emh_base::{Dir, ModId, NoMemory, Plain};
 use flatten_rules::{is_sound, is_within};
 use std::alloc::Global;
 use std::test::Fail;
@@ -144,15 +145,9 @@ const WIDTHS: &[Module] = &[
     },
 ];
 
-const WIDEST: Option<Range> = Some(Range {
-    left: 0,
-    right: 4095,
-});
+const WIDEST: Option<Ends> = Some((0, 4095));
 
-const REST: Option<Range> = Some(Range {
-    left: 0,
-    right: 3336,
-});
+const REST: Option<Ends> = Some((0, 3336));
 
 /// The masters of three modules more: 16 times module 0, 256 times, and once more with one bit.
 const WIDER: &[(u32, &[u32])] = &[(4, &[0; 16]), (5, &[4; 16]), (6, &[5, 2])];

@@ -1,5 +1,6 @@
-use super::builder::{EMPTY, Inst, Module, Net, table_of};
-use emh_base::{Dir, NetId, NoMemory, Range, Src};
+use super::builder::{EMPTY, table_of};
+use crate::modules::{Inst, Module, Net, Port};
+use emh_base::{Dir, NetId, NoMemory, Src};
 use flatten_rules::is_sound;
 use std::alloc::Global;
 use std::test::Fail;
@@ -8,16 +9,16 @@ const A: Net = (0, "a", None);
 
 const B: Net = (1, "b", None);
 
-const C: Net = (4, "c", Some(Range { left: 5, right: 2 }));
+const C: Net = (4, "c", Some((5, 2)));
 
 /// The last bit of net c.
 const LAST: &[Src] = &[Src::Bit(NetId(4), 3)];
 
-const IN_0: (u32, Dir) = (0, Dir::Input);
+const IN_0: Port = (0, Dir::Input);
 
-const IN_1: (u32, Dir) = (1, Dir::Input);
+const IN_1: Port = (1, Dir::Input);
 
-const IN_4: (u32, Dir) = (4, Dir::Input);
+const IN_4: Port = (4, Dir::Input);
 
 const CELL: Module = Module {
     id: 0,
@@ -229,18 +230,7 @@ const PORTS: Tables = &[
         &[
             CELL,
             Module {
-                nets: &[
-                    A,
-                    B,
-                    (
-                        4,
-                        "c",
-                        Some(Range {
-                            left: 65536,
-                            right: 65533,
-                        }),
-                    ),
-                ],
+                nets: &[A, B, (4, "c", Some((65536, 65533)))],
                 ..HOLDER
             },
         ],
@@ -250,18 +240,7 @@ const PORTS: Tables = &[
         &[
             CELL,
             Module {
-                nets: &[
-                    A,
-                    B,
-                    (
-                        4,
-                        "c",
-                        Some(Range {
-                            left: 65533,
-                            right: 65536,
-                        }),
-                    ),
-                ],
+                nets: &[A, B, (4, "c", Some((65533, 65536)))],
                 ..HOLDER
             },
         ],
@@ -271,18 +250,7 @@ const PORTS: Tables = &[
         &[
             CELL,
             Module {
-                nets: &[
-                    A,
-                    B,
-                    (
-                        4,
-                        "c",
-                        Some(Range {
-                            left: 0,
-                            right: 4096,
-                        }),
-                    ),
-                ],
+                nets: &[A, B, (4, "c", Some((0, 4096)))],
                 ..HOLDER
             },
         ],
@@ -468,18 +436,7 @@ const NO_FAULTS: &[(&str, &[Module], u32)] = &[
         &[
             CELL,
             Module {
-                nets: &[
-                    A,
-                    B,
-                    (
-                        4,
-                        "c",
-                        Some(Range {
-                            left: 1,
-                            right: 4096,
-                        }),
-                    ),
-                ],
+                nets: &[A, B, (4, "c", Some((1, 4096)))],
                 ..HOLDER
             },
         ],
@@ -490,18 +447,7 @@ const NO_FAULTS: &[(&str, &[Module], u32)] = &[
         &[
             CELL,
             Module {
-                nets: &[
-                    A,
-                    B,
-                    (
-                        4,
-                        "c",
-                        Some(Range {
-                            left: 65535,
-                            right: 61440,
-                        }),
-                    ),
-                ],
+                nets: &[A, B, (4, "c", Some((65535, 61440)))],
                 ..HOLDER
             },
         ],
