@@ -8,6 +8,5 @@ pub mod GainsLemmas
 pub mod OpenLemmas
 pub mod Playing
 pub mod FetchLemmas
-pub mod NoModules
 pub mod OneReading
 pub mod OneSession

@@ -10,22 +10,19 @@ use Rattle.vlog_read.proofs.OneAnswer as read
 use Rattle.vlog_read.specs.declared.tree.Tree.{Tree}
 use Rattle.vlog_elab.proofs.OneAnswer as elab
 use Rattle.emh_shell.specs.Opened as opened
-use Rattle.emh_shell.specs.Read.{no_modules, HasTree, HasTable, HasParseFault, HasElabFault, HasReadFault}
+use Rattle.flatten_rules.specs.Lookup.{no_modules}
+use Rattle.vlog_read.specs.HasTree.{HasTree}
+use Rattle.vlog_read.proofs.OneTree.{one-tree}
+use Rattle.vlog_elab.proofs.OneReading.{one-table as one-reading}
+use Rattle.emh_shell.specs.Read.{HasTable, HasParseFault, HasElabFault, HasReadFault}
 use Rattle.emh_shell.specs.Load.{Loads, IsOpened, CannotOpen}
 use Rattle.emh_shell.specs.declared.fault.ReadFault.{ReadFault}
 use Rattle.emh_shell.specs.declared.fault.ReadFault.TheVariants.{Lex, Parse, Elab}
 use Rattle.emh_shell.specs.declared.reply.LoadReply.{LoadReply}
 use Rattle.emh_shell.specs.declared.reply.LoadReply.TheVariants.{Opened, TooLong, Faulty, NotBuilt}
 
-one-tree : (bytes : List ℕ) (tree other : Tree) → HasTree bytes tree → HasTree bytes other → tree ≡ other
-one-tree bytes tree other a b =
-    let same = one_list bytes a.tokens b.tokens a.lexes b.lexes in
-    (read.law 0 a.tokens).one_tree tree other a.spells (rw same b.spells)
-
 one-table : (bytes : List ℕ) (plain other : Plain) → HasTable bytes plain → HasTable bytes other → plain ≡ other
-one-table bytes plain other a b =
-    let same = one-tree bytes a.tree b.tree a.has_tree b.has_tree in
-    (elab.one_answer no_modules false a.tree).one_table plain other a.elaborates (rw same b.elaborates)
+one-table = one-reading no_modules false
 
 -- what has a tree has no fault of its tokens or grammar
 no-lex-fault : (bytes : List ℕ) (tree : Tree) (fault : _) → HasTree bytes tree → HasReadFault bytes (Lex fault) → ⊥

@@ -1,37 +1,26 @@
 -- How a file is read: its bytes have tokens, these spell a tree, and the tree gives a table over no modules; or the fault
 -- of the first of these that fails.
-use Rattle.std.specs.Prelude.{ℕ, List, [], length, false}
+use Rattle.std.specs.Prelude.{ℕ, List, length, false}
 use Rattle.emh_base.specs.declared.plain.Plain.{Plain}
+use Rattle.flatten_rules.specs.Lookup.{no_modules}
 use Rattle.vlog_lex.specs.declared.token.Token.{Token}
 use Rattle.vlog_lex.specs.Lexes.{Lexes}
 use Rattle.vlog_lex.specs.Lexes as lex
 use Rattle.vlog_lex.specs.Found as lex_found
 use Rattle.vlog_read.specs.declared.tree.Tree.{Tree}
 use Rattle.vlog_read.specs.declared.fault.ParseFault.{ParseFault}
-use Rattle.vlog_read.specs.Sentence.{Spells}
+use Rattle.vlog_read.specs.HasTree.{HasTree}
 use Rattle.vlog_read.specs.Sentence as sentence
 use Rattle.vlog_read.specs.Found as parse_found
 use Rattle.vlog_elab.specs.declared.fault.ElabFault.{ElabFault}
-use Rattle.vlog_elab.specs.Elaboration.{Elaborates}
+use Rattle.vlog_elab.specs.Reads.{Reads}
 use Rattle.vlog_elab.specs.Elaboration as elaboration
 use Rattle.emh_shell.specs.declared.fault.ReadFault.{ReadFault}
 use Rattle.emh_shell.specs.declared.fault.ReadFault.TheVariants.{Lex, Parse, Elab}
 
--- the table without modules
-abbrev pub no_modules : Plain
-no_modules = record { modules = []; next_module = 0 }
-
--- the bytes have tokens that spell this tree
-pub record HasTree (bytes : List ℕ) (tree : Tree) : Type 0 where
-  pub tokens : List Token
-  pub lexes : Lexes bytes tokens
-  pub spells : Spells tree tokens
-
--- and the tree gives this table, whose leaves are the modules that are marked as cells
-pub record HasTable (bytes : List ℕ) (plain : Plain) : Type 0 where
-  pub tree : Tree
-  pub has_tree : HasTree bytes tree
-  pub elaborates : Elaborates no_modules false tree plain
+-- over no modules the bytes give this table, whose leaves are the modules that are marked as cells
+abbrev pub HasTable : List ℕ → Plain → Type 0
+HasTable bytes plain = Reads no_modules false bytes plain
 
 -- the bytes have tokens, whose fault this is
 pub record HasParseFault (bytes : List ℕ) (fault : ParseFault) : Type 0 where

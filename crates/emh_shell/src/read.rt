@@ -1,7 +1,8 @@
 ghost use Rattle.std.specs.Prelude.{◌≤◌, length, IfOk, IfErr};
 ghost use Rattle.emh_io.specs.declared.shelf.TheConstants.{FILE_LIMIT};
 ghost use Rattle.flatten_rules.specs.Sound.{IsSound};
-ghost use Rattle.emh_shell.specs.Read.{HasTree, HasTable, HasReadFault, UnlessNoMemory};
+ghost use Rattle.vlog_read.specs.HasTree.{HasTree};
+ghost use Rattle.emh_shell.specs.Read.{HasTable, HasReadFault, UnlessNoMemory};
 
 use crate::fault::ReadFault;
 use emh_base::{List, Plain};

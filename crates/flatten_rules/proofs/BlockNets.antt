@@ -18,7 +18,7 @@ equal Less e = absurd (true≢false (sym e))
 equal Greater e = absurd (true≢false (sym e))
 
 -- a root that passes the test is the net bit, and the net bit passes it
-root-own : (bit : NetBit) (root : Root) → is_own bit root ≡ true → root ≡ Own bit.path bit.net bit.offset
+pub root-own : (bit : NetBit) (root : Root) → is_own bit root ≡ true → root ≡ Own bit.path bit.net bit.offset
 root-own bit Tie0 own = absurd (true≢false (sym own))
 root-own bit Tie1 own = absurd (true≢false (sym own))
 root-own bit (Own path net offset) own =
@@ -29,7 +29,7 @@ root-own bit (Own path net offset) own =
     let offsets : offset ≡ bit.offset = eqb-true offset bit.offset last.1 in
     λ i. Own (paths i) (record { 0 = nets i }) (offsets i)
 
-own-root : (bit : NetBit) → is_own bit (Own bit.path bit.net bit.offset) ≡ true
+pub own-root : (bit : NetBit) → is_own bit (Own bit.path bit.net bit.offset) ≡ true
 own-root bit = rw (tied_itself path_total bit.path, eq-eqb bit.net.0 bit.net.0 refl, eq-eqb bit.offset bit.offset refl) refl
 
 -- what is there and passes a test is kept

@@ -7,6 +7,7 @@ use Rattle.std.proofs.lemmas.Cmp.{tied_itself, upto}
 use Rattle.std.proofs.lemmas.Map.Lookups.{exact_bytes}
 use Rattle.std.proofs.lemmas.List.Sorted.{sum_by-IsPermutation}
 use Rattle.std.proofs.lemmas.List.Recursion.{is_sum_by}
+use Rattle.std.specs.List.{sum_by}
 use Rattle.flatten_rules.specs.Sorted.{placed, sorted}
 
 abbrev Text : Type 0
@@ -144,3 +145,12 @@ times-permutation z xs ys moved =
 pub sorted-only : (xs ys : List Text) → IsPermutation xs ys → IsSorted cmp ys → ys ≡ sorted xs
 sorted-only xs ys moved up =
     same ys (sorted xs) (Rises-from_sort ys up) (Rises-sorted xs) (λ z. times-permutation z xs ys moved ∙ sym (times-sorted z xs))
+
+-- lists over which each number adds up alike are one when they are sorted
+pub sorted-alike : (xs ys : List Text) → ((n : Text → ℕ) → sum_by n xs ≡ sum_by n ys) → sorted xs ≡ sorted ys
+sorted-alike xs ys alike =
+    let hit = λ (z y : Text). cond (is_eq (cmp z y)) 1 0 in
+    let often : (z : Text) → times z (sorted xs) ≡ times z (sorted ys) = λ z.
+    times-sorted z xs ∙ is_sum_by (times z) (hit z) refl (λ _ _. refl) xs ∙ alike (hit z)
+    ∙ sym (is_sum_by (times z) (hit z) refl (λ _ _. refl) ys) ∙ sym (times-sorted z ys) in
+    same (sorted xs) (sorted ys) (Rises-sorted xs) (Rises-sorted ys) often

@@ -1,8 +1,11 @@
-use Rattle.std.specs.Prelude.{ℕ, ◌==◌, ◌+◌, ◌-◌, ◌<◌, All, AllPairs, List, [], Option, Some, None, find, position}
+use Rattle.std.specs.Prelude.{ℕ, ◌==◌, ◌+◌, ◌-◌, ◌<◌, All, AllPairs, List, [], map, Option, Some, None, find, position}
+use Rattle.std.specs.List.{range_with_len}
 use Rattle.emh_base.specs.declared.ids.ModId.{ModId}
 use Rattle.emh_base.specs.declared.ids.NetId.{NetId}
 use Rattle.emh_base.specs.declared.ids.InstId.{InstId}
 use Rattle.emh_base.specs.declared.plain.Range.{Range}
+use Rattle.emh_base.specs.declared.plain.Src.{Src}
+use Rattle.emh_base.specs.declared.plain.Src.TheVariants.{Bit}
 use Rattle.emh_base.specs.declared.plain.PNet.{PNet}
 use Rattle.emh_base.specs.declared.plain.PPort.{PPort}
 use Rattle.emh_base.specs.declared.plain.PInst.{PInst}
@@ -45,3 +48,11 @@ width (Some range) = (range.left - range.right) + (range.right - range.left) + 1
 abbrev pub width_of : Option PNet → ℕ
 width_of None = 0
 width_of (Some net) = width net.range
+
+-- bits of a net that follow each other, from an offset on
+abbrev pub bits_from : NetId → ℕ → ℕ → List Src
+bits_from net offset count = map (λ k. Bit net k) (range_with_len offset count)
+
+-- the table without modules
+abbrev pub no_modules : Plain
+no_modules = record { modules = []; next_module = 0 }

@@ -31,5 +31,6 @@ pub use limits::is_within;
 pub use lines::flat_lines;
 pub use lookup::{find, module_of, net_of, place_of_module, port_of, width};
 pub use numbered::{Numbered, place_of, rises};
+pub use port::port_places;
 pub use root::Root;
 pub use soundness::is_sound;

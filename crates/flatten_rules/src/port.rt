@@ -8,7 +8,7 @@ use std::alloc::Global;
 
 /// For each net of a module, by its place, the place of the port on it. None where the net of a port isn't there, or
 /// two ports are on one net.
-pub(crate) fn port_places(
+pub fn port_places(
     alloc: Global,
     holder: &PModule,
 ) -> Result<Option<Vec<Option<usize>>>, NoMemory>

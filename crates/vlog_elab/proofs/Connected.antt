@@ -16,7 +16,7 @@ use Rattle.emh_base.specs.declared.plain.Conn.TheVariants as conn
 use Rattle.emh_base.specs.declared.plain.PPort.{PPort}
 use Rattle.emh_base.specs.declared.plain.PModule.{PModule}
 use Rattle.emh_base.specs.declared.plain.Plain.{Plain}
-use Rattle.flatten_rules.specs.Lookup.{module_of, net_of, width, width_of}
+use Rattle.flatten_rules.specs.Lookup.{module_of, net_of, width, width_of, bits_from}
 use Rattle.flatten_rules.specs.Sound.{IsSource, FitsPort, FitPorts, HasMaster}
 use Rattle.flatten_rules.proofs.Checking.{fit-from_each}
 use Rattle.vlog_read.specs.declared.tree.At.{At}
@@ -32,7 +32,7 @@ use Rattle.vlog_elab.specs.Check.{check_at, check, first}
 use Rattle.vlog_elab.specs.Named.{Named, named, is_there, place_of}
 use Rattle.vlog_elab.specs.Steps.{ports_of}
 use Rattle.vlog_elab.specs.Connections.{port_named, ports_named, net_range, has_index, has_indices, runs_against, mixes, conn_checks, part_width, port_at, width_checks}
-use Rattle.vlog_elab.specs.Table.{net_id, net_bits, offset_in, tie_of, literal_bits, part_bits, conn_bits, conn_of, is_to, conn_to, conns_of, master_id, inst_row}
+use Rattle.vlog_elab.specs.Table.{net_id, offset_in, tie_of, literal_bits, part_bits, conn_bits, conn_of, is_to, conn_to, conns_of, master_id, inst_row}
 use Rattle.vlog_elab.proofs.Each.{all_none, all_cons, all_head, all_tail}
 use Rattle.vlog_elab.proofs.Naming.{same_name}
 use Rattle.vlog_elab.proofs.Numbering.{length-numbered}
@@ -42,12 +42,12 @@ use Rattle.vlog_elab.proofs.Fitting.{PartFits, ConnFits, InstFits, all_flat}
 
 -- Bits of nets.
 
-all_bits : (R : PModule) (net : NetId) (offset count : ℕ) → offset + count ≤ width_of (net_of R net) → All (IsSource R) (net_bits net offset count)
+all_bits : (R : PModule) (net : NetId) (offset count : ℕ) → offset + count ≤ width_of (net_of R net) → All (IsSource R) (bits_from net offset count)
 all_bits R net offset zero h = all_none (IsSource R)
 all_bits R net offset (suc n) h =
-    all_cons (IsSource R) (src.Bit net offset) (net_bits net (offset + 1) n) (omega (arith, h)) (all_bits R net (offset + 1) n (omega (arith, h)))
+    all_cons (IsSource R) (src.Bit net offset) (bits_from net (offset + 1) n) (omega (arith, h)) (all_bits R net (offset + 1) n (omega (arith, h)))
 
-many_bits : (net : NetId) (offset count : ℕ) → length (net_bits net offset count) ≡ count
+many_bits : (net : NetId) (offset count : ℕ) → length (bits_from net offset count) ≡ count
 many_bits net offset zero = refl
 many_bits net offset (suc n) = ap suc (many_bits net (offset + 1) n)
 

@@ -23,3 +23,4 @@ pub mod Row
 pub mod Staying
 pub mod OneAnswer
 mod Placing
+pub mod OneReading

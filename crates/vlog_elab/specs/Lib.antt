@@ -11,5 +11,6 @@ pub mod Walks
 pub mod Table
 pub mod Pins
 pub mod Elaboration
+pub mod Reads
 pub mod Law
 pub mod Placed

@@ -1,6 +1,6 @@
 -- The table that a text gives: ids, nets, ports, instances and their connections.
 use Rattle.std.specs.Prelude.{ℕ, zero, suc, ◌-◌, ◌+◌, ◌/◌, ◌%◌, ◌^◌, ◌==◌, Bool, true, false, if◌then◌else◌, List, [], ◌∷◌, ◌++◌, map, find, length, slice_get, Option, Some, None, is_some, unwrap_or}
-use Rattle.std.specs.List.{flat_map, range_with_len}
+use Rattle.std.specs.List.{flat_map}
 use Rattle.emh_base.specs.declared.ids.ModId.{ModId}
 use Rattle.emh_base.specs.declared.ids.NetId.{NetId}
 use Rattle.emh_base.specs.declared.plain.Range.{Range}
@@ -13,7 +13,7 @@ use Rattle.emh_base.specs.declared.plain.PPort.{PPort}
 use Rattle.emh_base.specs.declared.plain.PInst.{PInst}
 use Rattle.emh_base.specs.declared.plain.PModule.{PModule}
 use Rattle.emh_base.specs.declared.plain.Plain.{Plain}
-use Rattle.flatten_rules.specs.Lookup.{width}
+use Rattle.flatten_rules.specs.Lookup.{width, bits_from}
 use Rattle.vlog_read.specs.declared.tree.At.{At}
 use Rattle.vlog_read.specs.declared.tree.Decl.{Decl}
 use Rattle.vlog_read.specs.declared.tree.Part.{Part}
@@ -64,10 +64,6 @@ nets m = firsts (flat_map decl_nets (header_decls m.header) ++ flat_map item_net
 abbrev pub net_id : Named Net → List ℕ → NetId
 net_id ns name = record { 0 = unwrap_or (place_of ns name) 0 }
 
--- bits of a net that follow each other, from an offset on
-abbrev pub net_bits : NetId → ℕ → ℕ → List Src
-net_bits net offset count = map (λ k. src.Bit net k) (range_with_len offset count)
-
 -- the offset of an index from the range's left end
 abbrev pub offset_in : Option Range → ℕ → ℕ
 offset_in None index = 0
@@ -84,10 +80,10 @@ literal_bits (suc n) value = tie_of value n ∷ literal_bits n value
 
 -- the bits of a part of an expression, leftmost first
 abbrev pub part_bits : Named Net → Part → List Src
-part_bits ns (Name n) = net_bits (net_id ns n.name) 0 (width (net_range (named ns n.name)))
-part_bits ns (Bit n index) = net_bits (net_id ns n.name) (offset_in (net_range (named ns n.name)) index) 1
+part_bits ns (Name n) = bits_from (net_id ns n.name) 0 (width (net_range (named ns n.name)))
+part_bits ns (Bit n index) = bits_from (net_id ns n.name) (offset_in (net_range (named ns n.name)) index) 1
 part_bits ns (Bits n range) =
-    net_bits (net_id ns n.name) (offset_in (net_range (named ns n.name)) range.left) (width (Some range))
+    bits_from (net_id ns n.name) (offset_in (net_range (named ns n.name)) range.left) (width (Some range))
 part_bits ns (Lit size value) = literal_bits size value
 
 -- an empty expression leaves the port open

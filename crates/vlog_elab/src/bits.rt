@@ -4,7 +4,8 @@ ghost use Rattle.std.specs.List.{flat_map};
 ghost use Rattle.std.specs.Option.{option_map};
 ghost use Rattle.vlog_elab.specs.Named.{named};
 ghost use Rattle.vlog_elab.specs.Connections.{net_range};
-ghost use Rattle.vlog_elab.specs.Table.{net_id, net_bits, offset_in, literal_bits, tie_of, part_bits, conn_bits};
+ghost use Rattle.flatten_rules.specs.Lookup.{bits_from};
+ghost use Rattle.vlog_elab.specs.Table.{net_id, offset_in, literal_bits, tie_of, part_bits, conn_bits};
 
 use crate::names::Names;
 use crate::scope::Net;
@@ -112,7 +113,7 @@ fn offset_in(range: Option<Range>, index: u32) -> u32
 /// Puts as many bits of a net last, from an offset on.
 fn push_net(bits: &mut List<Src>, net: NetId, offset: u32, count: u64) -> Result<(), NoMemory>
     requires { count ≤ 2 ^ 32 }
-    ensures { OnOk result (bits.new ≡ bits.old ++ net_bits net offset count) }
+    ensures { OnOk result (bits.new ≡ bits.old ++ bits_from net offset count) }
 {
     for step in 0..count {
         let Ok(place) = u16::try_from(u64::from(offset) + step) else {

@@ -7,3 +7,4 @@ pub mod Left
 pub mod Sentences
 pub mod OneAnswer
 pub mod Worked
+pub mod OneTree

@@ -4,3 +4,5 @@ pub mod Sentence
 pub mod Law
 pub mod Found
 pub mod Machine
+pub mod Bare
+pub mod HasTree

@@ -1,4 +1,4 @@
-use Rattle.emh_shell.proofs.NoModules.{sound-no_modules}
+use Rattle.flatten_rules.proofs.NoModules.{sound-no_modules}
 use Rattle.emh_shell.proofs.read.read_netlist.Goals as goal
 
 pub elab-requires : goal.elab-requires

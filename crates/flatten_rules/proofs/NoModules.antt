@@ -4,11 +4,10 @@ use Rattle.std.specs.Prelude.{option_and_then}
 use Rattle.std.specs.List.{IsDistinct}
 use Rattle.emh_base.specs.declared.plain.PInst.{PInst}
 use Rattle.emh_base.specs.declared.plain.PModule.{PModule}
-use Rattle.flatten_rules.specs.Lookup.{module_of, inst_of}
+use Rattle.flatten_rules.specs.Lookup.{module_of, inst_of, no_modules}
 use Rattle.flatten_rules.specs.Unfolding.{module_up}
 use Rattle.flatten_rules.specs.Cycle.{OnCycle}
 use Rattle.flatten_rules.specs.Sound.{IsSound}
-use Rattle.emh_shell.specs.Read.{no_modules}
 
 no-master : (found : Option PInst) → option_and_then (λ (inst : PInst). module_of no_modules inst.master) found ≡ None
 no-master None = refl

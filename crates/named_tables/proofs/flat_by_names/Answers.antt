@@ -1,0 +1,5 @@
+use Rattle.named_tables.proofs.Lines as lines
+use Rattle.named_tables.proofs.flat_by_names.Goals as goal
+
+pub returns : goal.returns
+returns c = lines.flat_by_names

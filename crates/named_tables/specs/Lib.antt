@@ -1,0 +1,2 @@
+pub mod NamedTable
+pub mod Law

@@ -1,0 +1,6 @@
+pub mod Word
+pub mod Layout
+pub mod TreeOf
+pub mod Written
+pub mod Law
+pub mod inside
