@@ -1,35 +1,31 @@
 -- The lines of the flat netlist are counted by names.
-use Rattle.std.proofs.Common.{arith, ◌≡◌, ◌≢◌, ℕ, zero, suc, ◌+◌, ◌<◌, ◌==◌, Bool, true, false, cond, List, [], ◌∷◌, ◌++◌, map, flat_map, find, length, get_or, reverse, Option, Some, None, option_map, codes, bytes_eq, filter, refl, sym, ap, ◌∙◌, subst, All, AllPairs}
-use Rattle.std.specs.List.{sum_by, range_with_len, IsDistinct}
-use Rattle.std.specs.Map.{lookup, keys_of}
+use Rattle.std.proofs.Common.{◌≡◌, ℕ, ◌+◌, ◌==◌, Bool, true, false, cond, List, [], ◌∷◌, ◌++◌, map, flat_map, find, get_or, reverse, Option, Some, None, option_map, codes, bytes_eq, refl, sym, ap, ◌∙◌, subst}
+use Rattle.std.specs.List.{sum_by, range_with_len}
+use Rattle.std.specs.Map.{lookup}
 use Rattle.std.proofs.lemmas.Cmp.{nat_list_eq_equiv}
-use Rattle.std.proofs.lemmas.Slice.Eq.{bytes_eq-Decides}
-use Rattle.std.proofs.lemmas.List.{reverse-reverse, length-append, get_or_append_left, map-id}
+use Rattle.std.proofs.lemmas.List.{reverse-reverse}
 use Rattle.std.proofs.lemmas.List.Sums.{sum_by-append}
 use Rattle.emh_base.specs.declared.ids.ModId.{ModId}
-use Rattle.emh_base.specs.declared.ids.NetId.{NetId}
 use Rattle.emh_base.specs.declared.ids.InstId.{InstId}
 use Rattle.emh_base.specs.declared.plain.Range.{Range}
 use Rattle.emh_base.specs.declared.plain.PNet.{PNet}
 use Rattle.emh_base.specs.declared.plain.PPort.{PPort}
-use Rattle.emh_base.specs.declared.plain.PInst.{PInst}
 use Rattle.emh_base.specs.declared.plain.PModule.{PModule}
 use Rattle.emh_base.specs.declared.plain.Plain.{Plain}
 use Rattle.emh_base.specs.Text.{spell, path_text, bit_text, pin_text}
 use Rattle.flatten_rules.specs.Lookup.{module_of, net_of, width}
 use Rattle.flatten_rules.specs.Design.{module_named}
 use Rattle.flatten_rules.specs.Unfolding.{Occurrence, occurrences, module_up}
-use Rattle.flatten_rules.specs.Domains.{NetBit, Pin, bits_of_net, bits_inside, net_bits, root_of, is_leaf, block_instances, is_own, block_nets, offsets, port_net, ports_of, pins_of_port, pins, root_of_pin, terminals}
+use Rattle.flatten_rules.specs.Domains.{NetBit, Pin, bits_of_net, bits_inside, net_bits, root_of, is_leaf, block_instances, is_own, block_nets, offsets, port_net, ports_of, pins_of_port, pins, terminals}
 use Rattle.flatten_rules.specs.Texts.{names_up, net_up, net_bit_text, port_bit_text, root_text}
 use Rattle.flatten_rules.specs.Root.{root_up, pin_root}
-use Rattle.flatten_rules.specs.Sorted.{sorted}
-use Rattle.flatten_rules.specs.FlatLines.{dir_text, module_text, term_line, inst_line, net_line, pin_line, term_lines, flat_lines}
+use Rattle.flatten_rules.specs.FlatLines.{dir_text, module_text, term_line, inst_line, net_line, pin_line, term_lines}
 use Rattle.flatten_rules.specs.Sound.{IsSound, IsSoundModule}
 use Rattle.flatten_rules.proofs.Sound.{All-find}
 use Rattle.flatten_rules.proofs.Walks.{some-there, find-own, up-own, same-some, id-of_found}
 use Rattle.flatten_rules.proofs.OneOrder.{sorted-alike}
-use Rattle.named_tables.specs.NamedTable.{NamedPort, NamedModule, NamedTable, named_port, named_module, named_table, net_named}
-use Rattle.named_tables.specs.Law.{FlatByNames}
+use Rattle.named_tables.specs.NamedTable.{NamedPort, NamedModule, NamedTable, named_port, named_module, named_table}
+use Rattle.named_tables.specs.Law.{EachFlatNetlistByNames}
 use Rattle.named_tables.proofs.Sums.{sum-flat, sum-mapped, sum-filtered, sum-same}
 use Rattle.named_tables.proofs.Names.{module-own, named-own, modules-differ, nets-differ}
 use Rattle.named_tables.proofs.Alike.{Apart, same-sums, entries, apart-from_pairs}
@@ -259,7 +255,7 @@ module _ (g : List ℕ → ℕ) (M : Plain) (top : ModId) (first : PModule) (sou
       let id : top ≡ first.id = sym (id-here M top first found) in
       let leads : module_up M top (reverse []) ≡ Some first = leads-none M top first found in
       let over : (f : Occurrence → ℕ) (h : Place → ℕ) → ((path : List InstId) (m : PModule) → module_up M top (reverse path) ≡ Some m → f (path, m.id) ≡ h (stack M top (reverse path), m.name))
-          → sum_by f (occurrences M top) ≡ sum_by h all = λ f h each.
+      → sum_by f (occurrences M top) ≡ sum_by h all = λ f h each.
       ap (λ i. sum_by f (occurrences-from M i)) id ∙ sum-by_names M top sound f h each 257 [] first leads
       ∙ ap (λ s. sum_by h (unfolded_by T s first.name 257)) (stack-none M top) in
       let insts : sum_by g (map (inst_line M top) (block_instances M top)) ≡ sum_by (inst_by g T first.name) all
@@ -286,7 +282,7 @@ module _ (g : List ℕ → ℕ) (M : Plain) (top : ModId) (first : PModule) (sou
       ∙ ap (λ n. sum_by (inst_by g T first.name) all + n) (sum_by-append g C D ∙ ap (λ n. n + sum_by g D) nets ∙ ap (λ n. sum_by (nets_by g T first.name (nets_listed M)) all + n) all_pins))
 
 -- tables that are the same by names have the same flat netlist
-pub flat_by_names : FlatByNames
+pub flat_by_names : EachFlatNetlistByNames
 flat_by_names M N top other m n sound_M sound_N same found_m found_n names =
     let A = λ (M : Plain) (top : ModId). flat_map (term_lines M top) (terminals M top) ++ (map (inst_line M top) (block_instances M top) ++ (map (net_line M top) (block_nets M top) ++ map (pin_line M top) (pins M top))) in
     sorted-alike (A M top) (A N other) (λ g.

@@ -1,11 +1,8 @@
 -- What has a name is found by it, where names differ.
-use Rattle.std.proofs.Common.{arith, ◌≡◌, ◌≢◌, ℕ, zero, suc, ◌+◌, ◌<◌, ◌==◌, Bool, true, false, cond, List, [], ◌∷◌, ◌++◌, map, find, length, get_or, slice_get, Option, Some, None, IsSome, option_map, bytes_eq, refl, sym, ap, ◌∙◌, subst, All, AllPairs, ⊎_elim}
-use Rattle.std.specs.List.{position_or_len, IsDistinct, sum_by}
-use Rattle.std.specs.Map.{lookup, keys_of}
-use Rattle.std.specs.HashMap as hash
-use Rattle.std.specs.HashMap.{HashMap}
+use Rattle.std.proofs.Common.{arith, ◌≡◌, ◌≢◌, ℕ, ◌<◌, ◌==◌, Bool, true, false, List, [], ◌∷◌, ◌++◌, map, find, length, get_or, slice_get, Some, option_map, bytes_eq, refl, sym, ap, ◌∙◌, subst, AllPairs}
+use Rattle.std.specs.List.{position_or_len, IsDistinct}
 use Rattle.std.proofs.lemmas.Option.{slice_get_within, get_or_from_slice_get, slice_get-get_or}
-use Rattle.std.proofs.lemmas.List.{length-map, length-append, get_or_append_left, get_or-map, map-id}
+use Rattle.std.proofs.lemmas.List.{length-map, length-append, get_or_append_left, get_or-map}
 use Rattle.std.proofs.lemmas.List.Folds.{find_at}
 use Rattle.std.proofs.lemmas.List.Sums.{position_or_len_is}
 use Rattle.std.proofs.lemmas.Map.Made.{AllPairs-from_IsDistinct}
@@ -19,7 +16,7 @@ use Rattle.emh_base.specs.declared.plain.Plain.{Plain}
 use Rattle.flatten_rules.specs.Lookup.{module_of, net_of}
 use Rattle.flatten_rules.specs.Sound.{IsSound, IsSoundModule}
 use Rattle.flatten_rules.proofs.Walks.{same-some, id-of_net}
-use Rattle.named_tables.specs.NamedTable.{NamedModule, named_module, named_table, net_named}
+use Rattle.named_tables.specs.NamedTable.{named_module, named_table, net_named}
 
 pub bytes_eq-refl : (a : List ℕ) → bytes_eq a a ≡ true
 bytes_eq-refl a = grind (arith, bytes_eq-Decides)
@@ -57,13 +54,16 @@ pairs-unmap {X} key xs more distinct i j d below within =
 pub nets-differ : (M : Plain) (m : PModule) → IsSoundModule M m → AllPairs (λ (a b : PNet). a.name ≢ b.name) m.nets
 nets-differ M m s = pairs-unmap (λ (net : PNet). net.name) m.nets (map (λ (inst : PInst). inst.name) m.insts) s.names
 
-pub modules-differ : (M : Plain) → IsSound M → AllPairs (λ (a b : PModule). a.name ≢ b.name) M.modules
-modules-differ M s =
-    pairs-unmap (λ (m : PModule). m.name) M.modules [] (subst (IsDistinct bytes_eq) (sym (append-none (map (λ (m : PModule). m.name) M.modules))) s.names)
+pub names-differ : (ms : List PModule) → IsDistinct bytes_eq (map (λ (m : PModule). m.name) ms) → AllPairs (λ (a b : PModule). a.name ≢ b.name) ms
+names-differ ms distinct =
+    pairs-unmap (λ (m : PModule). m.name) ms [] (subst (IsDistinct bytes_eq) (sym (append-none (map (λ (m : PModule). m.name) ms))) distinct)
   where
     append-none : (xs : List (List ℕ)) → xs ++ [] ≡ xs
     append-none [] = refl
     append-none (x ∷ xs) = ap (λ ys. x ∷ ys) (append-none xs)
+
+pub modules-differ : (M : Plain) → IsSound M → AllPairs (λ (a b : PModule). a.name ≢ b.name) M.modules
+modules-differ M s = names-differ M.modules s.names
 
 -- a net is found by its name
 pub net-own : (M : Plain) (m : PModule) (id : NetId) (net : PNet) → IsSoundModule M m → net_of m id ≡ Some net → net_named m net.name ≡ Some net

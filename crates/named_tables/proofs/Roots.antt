@@ -1,5 +1,5 @@
 -- Roots by names.
-use Rattle.std.proofs.Common.{arith, ◌≡◌, ◌≢◌, ℕ, zero, suc, ◌+◌, ◌<◌, ◌≤◌, ◌==◌, Bool, true, false, List, [], ◌∷◌, length, reverse, Option, Some, None, option_map, option_and_then, unwrap_or, MatchOption, codes, refl, sym, ap, ◌∙◌, subst, true≢false}
+use Rattle.std.proofs.Common.{arith, ◌≡◌, ℕ, ◌≤◌, ◌==◌, Bool, true, false, List, [], ◌∷◌, length, reverse, Option, Some, None, option_map, unwrap_or, MatchOption, codes, refl, sym, ap, ◌∙◌, subst}
 use Rattle.std.proofs.lemmas.List.{reverse-reverse, length-reverse}
 use Rattle.emh_base.specs.declared.ids.ModId.{ModId}
 use Rattle.emh_base.specs.declared.ids.NetId.{NetId}
@@ -12,8 +12,8 @@ use Rattle.emh_base.specs.declared.plain.PModule.{PModule}
 use Rattle.emh_base.specs.declared.plain.Plain.{Plain}
 use Rattle.flatten_rules.specs.declared.root.Root.{Root}
 use Rattle.flatten_rules.specs.declared.root.Root.TheVariants as root
-use Rattle.flatten_rules.specs.Lookup.{module_of, net_of, inst_of}
-use Rattle.flatten_rules.specs.Unfolding.{module_up, inst_up}
+use Rattle.flatten_rules.specs.Lookup.{module_of, net_of}
+use Rattle.flatten_rules.specs.Unfolding.{module_up}
 use Rattle.flatten_rules.specs.Domains.{NetBit, is_own}
 use Rattle.flatten_rules.specs.Texts.{names_up, net_up, net_bit_text, root_text}
 use Rattle.flatten_rules.specs.Root.{source_through, source_above, root_of_source, root_up, pin_root}

@@ -1,13 +1,11 @@
 -- The source above a port's bit, by names.
-use Rattle.std.proofs.Common.{arith, ◌≡◌, ◌≢◌, ℕ, zero, suc, ◌+◌, ◌<◌, ◌==◌, nat_lt, Bool, true, false, not, cond, List, [], ◌∷◌, map, length, get_or, slice_get, position, Option, Some, None, IsSome, option_map, option_and_then, bytes_eq, refl, sym, ap, ◌∙◌, subst, All, true≢false}
+use Rattle.std.proofs.Common.{arith, ◌≡◌, ℕ, zero, suc, ◌+◌, ◌<◌, ◌==◌, nat_lt, Bool, true, false, not, cond, List, [], ◌∷◌, map, length, get_or, slice_get, position, Option, Some, None, IsSome, option_map, option_and_then, bytes_eq, refl, sym, ap, ◌∙◌, subst, All, true≢false}
 use Rattle.std.specs.List.{position_or_len, prefix_len}
 use Rattle.std.proofs.lemmas.Bool.Decides.{nat_tests}
 use Rattle.std.proofs.lemmas.Option.{slice_get-map, slice_get_within, get_or_from_slice_get}
 use Rattle.std.proofs.lemmas.List.{length-map}
 use Rattle.std.proofs.lemmas.List.Elements.{All-head, All-tail}
-use Rattle.emh_base.specs.declared.ids.ModId.{ModId}
 use Rattle.emh_base.specs.declared.ids.NetId.{NetId}
-use Rattle.emh_base.specs.declared.ids.InstId.{InstId}
 use Rattle.emh_base.specs.declared.plain.Src.{Src}
 use Rattle.emh_base.specs.declared.plain.Src.TheVariants as src
 use Rattle.emh_base.specs.declared.plain.Conn.{Conn}
@@ -17,10 +15,10 @@ use Rattle.emh_base.specs.declared.plain.PPort.{PPort}
 use Rattle.emh_base.specs.declared.plain.PInst.{PInst}
 use Rattle.emh_base.specs.declared.plain.PModule.{PModule}
 use Rattle.emh_base.specs.declared.plain.Plain.{Plain}
-use Rattle.flatten_rules.specs.Lookup.{module_of, net_of, width_of}
+use Rattle.flatten_rules.specs.Lookup.{net_of, width_of}
 use Rattle.flatten_rules.specs.Root.{bit_of, source_through}
-use Rattle.flatten_rules.specs.Sound.{IsSound, IsSoundModule, IsSource, FitPorts}
-use Rattle.flatten_rules.proofs.Walks.{some-there, id-of_net, same-some}
+use Rattle.flatten_rules.specs.Sound.{IsSoundModule, IsSource, FitPorts}
+use Rattle.flatten_rules.proofs.Walks.{some-there}
 use Rattle.named_tables.specs.NamedTable.{NamedSource, NamedPort, NamedInst, NamedModule, NamedTable, net_name, named_port, named_conn, named_source, named_inst, named_module, named_table}
 use Rattle.named_tables.proofs.Names.{bytes_eq-refl, bytes_eq-other, one-net}
 

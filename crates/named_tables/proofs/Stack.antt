@@ -1,5 +1,5 @@
 -- The instances on the way to an occurrence, by names, the last of them first.
-use Rattle.std.proofs.Common.{◌≡◌, ℕ, ◌==◌, List, [], ◌∷◌, ◌++◌, Option, Some, None, option_and_then, reverse, refl, sym, ap, ◌∙◌}
+use Rattle.std.proofs.Common.{◌≡◌, ℕ, List, [], ◌∷◌, ◌++◌, Option, Some, None, refl, sym, ap, ◌∙◌}
 use Rattle.emh_base.specs.declared.ids.ModId.{ModId}
 use Rattle.emh_base.specs.declared.ids.NetId.{NetId}
 use Rattle.emh_base.specs.declared.ids.InstId.{InstId}
@@ -15,7 +15,7 @@ use Rattle.flatten_rules.specs.Texts.{inst_name, names_up, net_up, net_bit_text}
 use Rattle.flatten_rules.specs.Sound.{IsSound, IsSoundModule}
 use Rattle.flatten_rules.proofs.Sound.{sound-module}
 use Rattle.flatten_rules.proofs.Walks.{Step, last_step, up-own}
-use Rattle.named_tables.specs.NamedTable.{NamedInst, NamedModule, NamedTable, NamedPort, named_inst, named_module, named_table, module_name, net_named}
+use Rattle.named_tables.specs.NamedTable.{NamedInst, NamedModule, NamedTable, named_inst, named_module, named_table, module_name}
 use Rattle.named_tables.proofs.Names.{net-own, module-own}
 
 abbrev pub Stack : Type 0

@@ -1,5 +1,5 @@
 -- Sums over all occurrences, by names.
-use Rattle.std.proofs.Common.{arith, ◌≡◌, ℕ, zero, suc, ◌+◌, ◌<◌, List, [], ◌∷◌, ◌++◌, map, flat_map, length, get_or, reverse, Option, Some, None, refl, sym, ap, ◌∙◌, subst, All}
+use Rattle.std.proofs.Common.{◌≡◌, ℕ, zero, suc, ◌+◌, List, [], ◌∷◌, ◌++◌, flat_map, get_or, reverse, Option, Some, None, refl, sym, ap, ◌∙◌, All}
 use Rattle.std.specs.List.{sum_by}
 use Rattle.std.proofs.lemmas.List.{reverse-append}
 use Rattle.std.proofs.lemmas.List.Folds.{flat_map-map}
@@ -14,9 +14,9 @@ use Rattle.flatten_rules.specs.Unfolding.{Occurrence, unfolded, module_up}
 use Rattle.flatten_rules.specs.Sound.{IsSound, IsSoundModule}
 use Rattle.flatten_rules.proofs.Sound.{master-there}
 use Rattle.flatten_rules.proofs.Walks.{some-there, find-own, id-of_found, up-own}
-use Rattle.named_tables.specs.NamedTable.{NamedInst, NamedModule, NamedTable, named_inst, named_module, named_table, module_name}
+use Rattle.named_tables.specs.NamedTable.{NamedInst, NamedModule, NamedTable, named_inst, named_table, module_name}
 use Rattle.named_tables.proofs.Names.{module-own}
-use Rattle.named_tables.proofs.Sums.{sum-flat, sum-mapped, sum-same}
+use Rattle.named_tables.proofs.Sums.{sum-flat, sum-same}
 use Rattle.named_tables.proofs.Stack.{Stack, stack, stack-step, sound-up}
 
 abbrev pub insts_in : Option NamedModule → List NamedInst

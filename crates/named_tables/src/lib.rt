@@ -1,9 +1,6 @@
-//! The flat netlist is told by names alone.
+//! A module table by names: what stays of it without ids, and that its flat netlist and its cycles are told by that.
 #![tactic(auto)]
 
-ghost use Rattle.named_tables.specs.Law.{FlatByNames};
+mod law;
 
-/// The law: two sound tables that are the same by names have the same flat netlist.
-pub fn flat_by_names()
-    ensures { FlatByNames }
-{}
+pub use law::{each_cycle_by_names, each_flat_netlist_by_names};

@@ -24,3 +24,5 @@ pub mod Staying
 pub mod OneAnswer
 mod Placing
 pub mod OneReading
+pub mod BareConnections
+pub mod BareTrees

@@ -1,8 +1,9 @@
 -- The laws of elaboration, which a public call carries.
-use Rattle.std.specs.Prelude.{◌≡◌, Bool}
+use Rattle.std.specs.Prelude.{◌≡◌, ◌↔◌, Bool}
 use Rattle.emh_base.specs.declared.plain.Plain.{Plain}
 use Rattle.flatten_rules.specs.Sound.{IsSound}
 use Rattle.vlog_read.specs.declared.tree.Tree.{Tree}
+use Rattle.vlog_read.specs.Bare.{bare}
 use Rattle.vlog_elab.specs.declared.fault.ElabFault.{ElabFault}
 use Rattle.vlog_elab.specs.Elaboration.{Elaborates, HasFault}
 
@@ -19,3 +20,8 @@ EachHasAtMostOneAnswer = (M : Plain) (all_leaf : Bool) (tree : Tree) → HasAtMo
 -- from a sound table the result is sound
 abbrev pub StaysSound : Type 0
 StaysSound = (M : Plain) (all_leaf : Bool) (tree : Tree) (plain : Plain) → IsSound M → Elaborates M all_leaf tree plain → IsSound plain
+
+-- places tell where a fault is and nothing else: a tree gives a table exactly where it gives it without its places
+abbrev pub PlacesDoNotMatter : Type 0
+PlacesDoNotMatter = (M : Plain) (all_leaf : Bool) (tree : Tree) (plain : Plain)
+    → Elaborates M all_leaf tree plain ↔ Elaborates M all_leaf (bare tree) plain

@@ -1,19 +1,22 @@
--- A table that is by names a sound one has no cycle.
-use Rattle.std.proofs.Common.{arith, ◌≡◌, ◌≢◌, ℕ, zero, suc, ◌+◌, ◌<◌, ◌==◌, List, [], ◌∷◌, map, find, length, get_or, Option, Some, None, bytes_eq, refl, sym, ap, ◌∙◌, subst, All}
+-- A cycle of a table is one of each table that is the same by names.
+use Rattle.std.proofs.Common.{arith, ◌≡◌, ℕ, suc, ◌<◌, ◌==◌, List, [], ◌∷◌, map, find, length, get_or, Option, Some, None, option_map, bytes_eq, refl, sym, ap, ◌∙◌, subst}
 use Rattle.std.proofs.lemmas.List.{length-map, get_or-map}
+use Rattle.std.proofs.lemmas.Slice.Eq.{bytes_eq-Decides}
 use Rattle.emh_base.specs.declared.ids.ModId.{ModId}
 use Rattle.emh_base.specs.declared.ids.InstId.{InstId}
 use Rattle.emh_base.specs.declared.plain.PInst.{PInst}
 use Rattle.emh_base.specs.declared.plain.PModule.{PModule}
 use Rattle.emh_base.specs.declared.plain.Plain.{Plain}
 use Rattle.flatten_rules.specs.Lookup.{module_of, inst_of}
+use Rattle.flatten_rules.specs.Design.{module_named}
 use Rattle.flatten_rules.specs.Unfolding.{module_up}
 use Rattle.flatten_rules.specs.Cycle.{OnCycle}
-use Rattle.flatten_rules.specs.Sound.{IsSound, IsSoundModule, HasMaster}
-use Rattle.flatten_rules.proofs.Sound.{sound-module, master-there}
-use Rattle.flatten_rules.proofs.Walks.{last_step, up-own, found-own, find-own, some-there, same-some}
-use Rattle.named_tables.specs.NamedTable.{NamedInst, NamedModule, module_name, named_inst, named_module}
-use Rattle.named_tables.proofs.Names.{found-at, named-own, modules-differ}
+use Rattle.flatten_rules.specs.Sound.{IsSoundModule}
+use Rattle.flatten_rules.proofs.Sound.{All-find, master-there}
+use Rattle.flatten_rules.proofs.Walks.{last_step, find-passes, up-own, found-own, find-own, some-there, same-some}
+use Rattle.named_tables.specs.NamedTable.{NamedTable, NamedInst, NamedModule, module_name, named_inst, named_module, named_table}
+use Rattle.named_tables.specs.Law.{IsSoundButCycles, EachCycleByNames}
+use Rattle.named_tables.proofs.Names.{found-at, named-own, names-differ}
 
 -- a module that is another one by names
 pub record Twin (M B : Plain) (r : PModule) : Type 0 where
@@ -22,12 +25,12 @@ pub record Twin (M B : Plain) (r : PModule) : Type 0 where
   pub name : r.name ≡ twin.name
   pub same : named_module B r ≡ named_module M twin
 
-module _ (M B : Plain) (sound : IsSound M) (twins : (id : ModId) (r : PModule) → module_of B id ≡ Some r → Twin M B r) where
+module _ (M B : Plain) (sound : IsSoundButCycles M) (twins : (id : ModId) (r : PModule) → module_of B id ≡ Some r → Twin M B r) where
   one-module : (x y : PModule) → module_of M x.id ≡ Some x → module_of M y.id ≡ Some y → x.name ≡ y.name → x ≡ y
   one-module x y at_x at_y names =
       let key : PModule → List ℕ = λ m. m.name in
-      let own_x = named-own key M.modules (λ (m : PModule). m.id.0 == x.id.0) x (modules-differ M sound) at_x in
-      let own_y = named-own key M.modules (λ (m : PModule). m.id.0 == y.id.0) y (modules-differ M sound) at_y in
+      let own_x = named-own key M.modules (λ (m : PModule). m.id.0 == x.id.0) x (names-differ M.modules sound.names) at_x in
+      let own_y = named-own key M.modules (λ (m : PModule). m.id.0 == y.id.0) y (names-differ M.modules sound.names) at_y in
       let own_x' : find (λ (m : PModule). bytes_eq m.name y.name) M.modules ≡ Some x = subst (λ (q : List ℕ). find (λ (m : PModule). bytes_eq m.name q) M.modules ≡ Some x) names own_x in
       same-some (find (λ (m : PModule). bytes_eq m.name y.name) M.modules) x y own_x' own_y
 
@@ -64,7 +67,7 @@ module _ (M B : Plain) (sound : IsSound M) (twins : (id : ModId) (r : PModule) �
       let step = last_step B top i up r leads in
       let b = back top up step.holder step.above in
       let y : PModule = b.at.twin in
-      let s : IsSoundModule M y = sound-module M y.id y sound b.at.own in
+      let s : IsSoundModule M y = All-find (IsSoundModule M) (λ (m : PModule). m.id.0 == y.id.0) M.modules y sound.modules b.at.own in
       let place = found-at (λ (x : PInst). x.id.0 == i.0) step.holder.insts step.inst step.found in
       let insts : map (named_inst B step.holder) step.holder.insts ≡ map (named_inst M y) y.insts = ap (λ (x : NamedModule). x.insts) b.at.same in
       let within : place.0 < length y.insts = omega (arith, place.1, ap length insts, length-map step.holder.insts (named_inst B step.holder), length-map y.insts (named_inst M y)) in
@@ -88,14 +91,46 @@ module _ (M B : Plain) (sound : IsSound M) (twins : (id : ModId) (r : PModule) �
         leads = step-down b.first.id b.path y x inst b.leads (find-own (λ (x : PInst). x.id.0) y.insts s.insts_rise place.0 step.inst within) there.1 ∙ ap Some same;
       }
 
-  pub no-cycle : (r : PModule) → OnCycle B r → ⊥
-  no-cycle r (i, up, leads) =
+  -- where a module is on a cycle, its twin is on one too
+  pub cycle-back : (r : PModule) → OnCycle B r → (m : PModule) × (m.name ≡ r.name) × OnCycle M m
+  cycle-back r (i, up, leads) =
       let b = back r.id (i ∷ up) r leads in
       let own : module_of B r.id ≡ Some r = up-own B r.id (i ∷ up) r leads in
       let names : b.first.name ≡ b.at.twin.name = sym (b.first_name r own) ∙ b.at.name in
       let same : b.first ≡ b.at.twin = one-module b.first b.at.twin b.first_own b.at.own names in
-      at-path b.first b.path b.long (b.leads ∙ ap Some (sym same))
+      (b.first, names ∙ sym b.at.name, at-path b.first b.path b.long (b.leads ∙ ap Some (sym same)))
     where
-      at-path : (first : PModule) (path : List InstId) → length path ≡ suc (length up) → module_up M first.id path ≡ Some first → ⊥
+      at-path : (first : PModule) (path : List InstId) → length path ≡ suc (length up) → module_up M first.id path ≡ Some first → OnCycle M first
       at-path first [] long leads = absurd (omega (arith, long))
-      at-path first (j ∷ path) long leads = sound.no_cycle first (j, path, leads)
+      at-path first (j ∷ path) long leads = (j, path, leads)
+
+-- the module of a table that a module of another one is by names
+twin-of : (M N : Plain) → IsSoundButCycles M → IsSoundButCycles N → named_table N ≡ named_table M
+    → (id : ModId) (r : PModule) → module_of N id ≡ Some r → Twin M N r
+unfolding named_table
+twin-of M N sound_M sound_N same id r found = at (module_named M r.name) refl
+  where
+    key : PModule → List ℕ
+    key m = m.name
+
+    here : named_table N r.name ≡ Some (named_module N r)
+    here = ap (option_map (named_module N)) (named-own key N.modules (λ (m : PModule). m.id.0 == id.0) r (names-differ N.modules sound_N.names) found)
+
+    there : option_map (named_module M) (module_named M r.name) ≡ Some (named_module N r)
+    there = sym (ap (λ (T : NamedTable). T r.name) same) ∙ here
+
+    at : (o : Option PModule) → module_named M r.name ≡ o → Twin M N r
+    at None e = let never : None ≡ Some (named_module N r) = sym (ap (option_map (named_module M)) e) ∙ there in absurd (cc)
+    at (Some m) e =
+        let one : Some (named_module M m) ≡ Some (named_module N r) = sym (ap (option_map (named_module M)) e) ∙ there in
+        let place = found-at (λ (x : PModule). bytes_eq x.name r.name) M.modules m e in
+        record {
+          twin = m;
+          own = subst (λ (x : PModule). module_of M x.id ≡ Some x) place.2 (find-own (λ (x : PModule). x.id.0) M.modules sound_M.rise place.0 m place.1);
+          name = sym (let passes = find-passes (λ (x : PModule). bytes_eq x.name r.name) M.modules m e in grind (arith, bytes_eq-Decides));
+          same = cc;
+        }
+
+pub each_cycle_by_names : EachCycleByNames
+each_cycle_by_names M N m sound_M sound_N same cycle =
+    cycle-back N M sound_N (twin-of N M sound_N sound_M same) m cycle

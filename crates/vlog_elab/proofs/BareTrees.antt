@@ -1,4 +1,4 @@
--- Places only tell where faults are.
+-- A tree gives the same table with its places and without.
 use Rattle.std.proofs.Common.{arith, ◌≡◌, ℕ, zero, suc, ◌+◌, ◌==◌, Bool, true, false, cond, List, [], ◌∷◌, ◌++◌, map, flat_map, find, length, slice_get, Option, Some, None, is_some, option_map, bytes_eq, refl, sym, ap, ◌∙◌, subst}
 use Rattle.std.specs.Prelude.{◌||◌, ◌&&◌, not}
 use Rattle.std.specs.List.{list_any}
@@ -39,8 +39,9 @@ use Rattle.vlog_elab.specs.Faces.{Place, Ranged, Directed, Wired, Placed, range_
 use Rattle.vlog_elab.specs.Declarations.{header_checks, place_checks, direction_check, inside_checks, name_check, entry_checks, module_checks, declaration_checks}
 use Rattle.vlog_elab.specs.Steps.{Step, Declares, decl_steps, item_steps, inst_steps, steps, met, ports_of}
 use Rattle.vlog_elab.specs.Connections.{step_checks, inner_checks, connection_checks}
-use Rattle.vlog_read.specs.Bare.{bare_name, bare_span, bare_decl, bare_part, bare_conn, bare_inst, bare_item, bare_header, bare_module, bare, PlacesOnlyTell}
-use Rattle.read_back.proofs.Barely.{some-bare, named-bare, flags, first-flags, flags-each, bare_step, each-mapped, inst-bare, steps-flags}
+use Rattle.vlog_read.specs.Bare.{bare_name, bare_span, bare_decl, bare_part, bare_conn, bare_inst, bare_item, bare_header, bare_module, bare}
+use Rattle.vlog_elab.specs.Law.{PlacesDoNotMatter}
+use Rattle.vlog_elab.proofs.BareConnections.{some-bare, named-bare, flags, first-flags, flags-each, bare_step, each-mapped, inst-bare, steps-flags}
 
 flat-mapped : {X Y : Type 0} (e : X → X) (g : Y → Y) (f : X → List Y) → ((x : X) → f (e x) ≡ map g (f x)) → (xs : List X) → flat_map f (map e xs) ≡ map g (flat_map f xs)
 flat-mapped e g f same [] = refl
@@ -392,9 +393,19 @@ checks-flags M l tree =
     ∙ ap (λ xs. flags (declaration_checks M l tree.modules) ++ xs) (connections-flags M l tree.modules)
     ∙ sym (map-append (λ (c : Check). c.broken) (declaration_checks M l tree.modules) (connection_checks M l tree.modules))
 
-pub places_only_tell : PlacesOnlyTell
-places_only_tell M l tree made is = record {
-  passed = first-flags (checks M l (bare tree)) (checks M l tree) (checks-flags M l tree) is.passed;
-  no_cycle = subst (λ (B : Plain). IsFirstOnCycle B (length M.modules) None) (built-bare M l tree) is.no_cycle;
-  table = is.table ∙ built-bare M l tree;
-}
+pub places_do_not_matter : PlacesDoNotMatter
+places_do_not_matter M l tree made = (
+  λ is. record {
+    passed = first-flags (checks M l tree) (checks M l (bare tree)) (sym (checks-flags M l tree)) is.passed;
+    no_cycle = subst none_on_cycle (sym (built-bare M l tree)) is.no_cycle;
+    table = is.table ∙ sym (built-bare M l tree);
+  },
+  λ is. record {
+    passed = first-flags (checks M l (bare tree)) (checks M l tree) (checks-flags M l tree) is.passed;
+    no_cycle = subst none_on_cycle (built-bare M l tree) is.no_cycle;
+    table = is.table ∙ built-bare M l tree;
+  },
+)
+  where
+    none_on_cycle : Plain → Type 0
+    none_on_cycle B = IsFirstOnCycle B (length M.modules) None
