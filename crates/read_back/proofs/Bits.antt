@@ -1,11 +1,10 @@
 -- The bits of a written expression are the sources, by names.
-use Rattle.std.proofs.Common.{arith, ◌≡◌, ◌≢◌, ℕ, zero, suc, ◌+◌, ◌-◌, ◌<◌, ◌≤◌, ◌==◌, nat_lt, Bool, true, false, cond, List, [], ◌∷◌, ◌++◌, map, flat_map, length, get_or, Option, Some, None, refl, sym, ap, ◌∙◌, subst, All, true≢false, eqb-true}
+use Rattle.std.proofs.Common.{arith, ◌≡◌, ℕ, ◌+◌, ◌-◌, ◌<◌, ◌==◌, nat_lt, Bool, true, false, cond, List, [], ◌∷◌, ◌++◌, map, flat_map, length, Option, Some, None, refl, sym, ap, ◌∙◌, All, true≢false, eqb-true}
 use Rattle.std.specs.Prelude.{◌&&◌}
-use Rattle.std.specs.List.{range_with_len, sum_by}
+use Rattle.std.specs.List.{range_with_len}
 use Rattle.std.proofs.lemmas.Bool.Decides.{nat_tests}
 use Rattle.std.proofs.lemmas.List.Elements.{All-head, All-tail}
 use Rattle.std.proofs.lemmas.List.{map-append, length-map}
-use Rattle.std.proofs.lemmas.Simd.{map-map}
 use Rattle.emh_base.specs.Text.{index_of}
 use Rattle.emh_base.specs.declared.ids.NetId.{NetId}
 use Rattle.emh_base.specs.declared.plain.Range.{Range}
@@ -14,19 +13,19 @@ use Rattle.emh_base.specs.declared.plain.Src.TheVariants as src
 use Rattle.emh_base.specs.declared.plain.Conn.{Conn}
 use Rattle.emh_base.specs.declared.plain.Conn.TheVariants as conn
 use Rattle.emh_base.specs.declared.plain.PNet.{PNet}
-use Rattle.emh_base.specs.declared.plain.PPort.{PPort}
 use Rattle.emh_base.specs.declared.plain.PModule.{PModule}
-use Rattle.flatten_rules.specs.Lookup.{net_of, width, width_of}
-use Rattle.flatten_rules.specs.Sound.{IsSource, FitsPort}
+use Rattle.flatten_rules.specs.Lookup.{net_of, width, width_of, bits_from}
+use Rattle.flatten_rules.specs.Sound.{IsSource}
 use Rattle.vlog_read.specs.declared.tree.Part.{Part}
-use Rattle.vlog_read.specs.declared.tree.Part.TheVariants.{Name, Bit, Bits, Lit}
+use Rattle.vlog_read.specs.declared.tree.Part.TheVariants.{Name}
 use Rattle.vlog_elab.specs.declared.scope.Net.{Net}
 use Rattle.vlog_elab.specs.Named.{Named, named}
-use Rattle.vlog_elab.specs.Table.{net_id, net_bits, offset_in, literal_bits, part_bits, conn_bits}
-use Rattle.named_tables.specs.NamedTable.{NamedSource, net_name, net_range, named_source, named_conn}
-use Rattle.named_tables.specs.NamedTable.NamedSource.{Tie0 as ByTie0, Tie1 as ByTie1, Bit as ByBit}
+use Rattle.vlog_elab.specs.Table.{net_id, offset_in, part_bits, conn_bits}
+use Rattle.named_tables.specs.NamedTable.{net_name, net_range, named_source, named_conn}
+use Rattle.named_tables.specs.NamedTable.NamedSource.{Bit as ByBit}
 use Rattle.vlog_elab.specs.Connections.{net_range as met_range}
-use Rattle.vlog_write.specs.TreeOf.{name_at, bit_part, source_part, same_source, same_sources, are_whole, first_name, parts_of, conn_parts}
+use Rattle.vlog_write.specs.TreeOf.{bit_part, source_part, is_same, are_same, are_whole, first_name, parts_of, conn_parts}
+use Rattle.vlog_read.specs.Bare.{name_at}
 
 -- What was declared of a module's nets, and the row that was made of it: each net is there with its range, and its id names it.
 pub record Keeps (m : PModule) (ns : Named Net) (R : PModule) : Type 0 where
@@ -57,7 +56,7 @@ and-both : (a b : Bool) → a && b ≡ true → (a ≡ true) × (b ≡ true)
 and-both true b e = (refl, e)
 and-both false b e = absurd (true≢false (sym e))
 
-same-source : (a b : Src) → same_source a b ≡ true → a ≡ b
+same-source : (a b : Src) → is_same a b ≡ true → a ≡ b
 same-source src.Tie0 src.Tie0 e = refl
 same-source src.Tie0 src.Tie1 e = absurd (true≢false (sym e))
 same-source src.Tie0 (src.Bit n k) e = absurd (true≢false (sym e))
@@ -72,12 +71,12 @@ same-source (src.Bit n k) (src.Bit o j) e =
     let places : k ≡ j = eqb-true k j both.1 in
     λ i. src.Bit (record { 0 = nets i }) (places i)
 
-pub same-sources : (xs ys : List Src) → same_sources xs ys ≡ true → xs ≡ ys
+pub same-sources : (xs ys : List Src) → are_same xs ys ≡ true → xs ≡ ys
 same-sources [] [] e = refl
 same-sources [] (y ∷ ys) e = absurd (true≢false (sym e))
 same-sources (x ∷ xs) [] e = absurd (true≢false (sym e))
 same-sources (x ∷ xs) (y ∷ ys) e =
-    let both = and-both (same_source x y) (same_sources xs ys) e in
+    let both = and-both (is_same x y) (are_same xs ys) e in
     let heads : x ≡ y = same-source x y both.0 in
     let tails : xs ≡ ys = same-sources xs ys both.1 in
     λ i. heads i ∷ tails i
@@ -88,7 +87,7 @@ pub record Whole (m : PModule) (bits : List Src) : Type 0 where
   pub net : PNet
   pub at : net_of m id ≡ Some net
   pub name : first_name m bits ≡ net.name
-  pub is : bits ≡ net_bits id 0 (width net.range)
+  pub is : bits ≡ bits_from id 0 (width net.range)
 
 pub whole : (m : PModule) (bits : List Src) → All (IsSource m) bits → are_whole m bits ≡ true → Whole m bits
 whole m [] all e = absurd (true≢false (sym e))
@@ -101,7 +100,7 @@ whole m (src.Bit id k ∷ bits) all e =
       net = there.0;
       at = there.1;
       name = ap net_name there.1;
-      is = same-sources (src.Bit id k ∷ bits) (net_bits id 0 (width_of (net_of m id))) e ∙ ap (λ o. net_bits id 0 (width_of o)) there.1;
+      is = same-sources (src.Bit id k ∷ bits) (bits_from id 0 (width_of (net_of m id))) e ∙ ap (λ o. bits_from id 0 (width_of o)) there.1;
     }
 
 append-none : {X : Type 0} (xs : List X) → xs ++ [] ≡ xs
@@ -126,13 +125,13 @@ module _ (m : PModule) (ns : Named Net) (R : PModule) (keeps : Keeps m ns R) whe
   bit-back id net None k at is within =
       let zero_k : k ≡ 0 = omega (arith, within) in
       let range : met_range (named ns net.name) ≡ None = ap met_range (keeps.declared id net at) ∙ is in
-      ap (λ o. map (named_source R) (net_bits (net_id ns net.name) 0 (width o))) range
+      ap (λ o. map (named_source R) (bits_from (net_id ns net.name) 0 (width o))) range
       ∙ ap (λ q. ByBit q 0 ∷ []) (keeps.rows id net at)
       ∙ ap (λ j. ByBit net.name j ∷ []) (sym zero_k)
   bit-back id net (Some r) k at is within =
       let range : met_range (named ns net.name) ≡ Some r = ap met_range (keeps.declared id net at) ∙ is in
-      ap (λ o. map (named_source R) (net_bits (net_id ns net.name) (offset_in o (index_of r k)) 1)) range
-      ∙ ap (λ j. map (named_source R) (net_bits (net_id ns net.name) j 1)) (offset-back r k within)
+      ap (λ o. map (named_source R) (bits_from (net_id ns net.name) (offset_in o (index_of r k)) 1)) range
+      ∙ ap (λ j. map (named_source R) (bits_from (net_id ns net.name) j 1)) (offset-back r k within)
       ∙ ap (λ q. ByBit q k ∷ []) (keeps.rows id net at)
 
   -- a bit alone
@@ -164,8 +163,8 @@ module _ (m : PModule) (ns : Named Net) (R : PModule) (keeps : Keeps m ns R) whe
   -- a whole net
   whole-back : (bits : List Src) → Whole m bits → map (named_source R) (part_bits ns (Name (name_at (first_name m bits)))) ≡ map (named_source m) bits
   whole-back bits w =
-      ap (λ q. map (named_source R) (net_bits (net_id ns q) 0 (width (met_range (named ns q))))) w.name
-      ∙ ap (λ o. map (named_source R) (net_bits (net_id ns w.net.name) 0 (width (met_range o)))) (keeps.declared w.id w.net w.at)
+      ap (λ q. map (named_source R) (bits_from (net_id ns q) 0 (width (met_range (named ns q))))) w.name
+      ∙ ap (λ o. map (named_source R) (bits_from (net_id ns w.net.name) 0 (width (met_range o)))) (keeps.declared w.id w.net w.at)
       ∙ run-back w.id w.net (range_with_len 0 (width w.net.range)) w.at
       ∙ sym (ap (map (named_source m)) w.is)
 

@@ -1,15 +1,13 @@
 -- The connections of an instance are found by the names of the ports.
-use Rattle.std.proofs.Common.{arith, ◌≡◌, ◌≢◌, ℕ, zero, suc, ◌+◌, ◌<◌, ◌≤◌, ◌==◌, Bool, true, false, cond, List, [], ◌∷◌, map, find, length, get_or, Option, Some, None, IsSome, is_some, bytes_eq, refl, sym, ap, ◌∙◌, subst, All, AllPairs}
+use Rattle.std.proofs.Common.{arith, ◌≡◌, ◌≢◌, ℕ, zero, suc, ◌+◌, ◌<◌, true, false, cond, List, [], ◌∷◌, map, find, length, get_or, Option, Some, None, IsSome, is_some, refl, sym, ap, ◌∙◌, All, AllPairs}
 use Rattle.std.proofs.lemmas.List.Elements.{All-head, All-tail}
-use Rattle.emh_base.specs.declared.ids.NetId.{NetId}
-use Rattle.emh_base.specs.declared.plain.Dir.{Dir}
 use Rattle.emh_base.specs.declared.plain.Conn.{Conn}
 use Rattle.emh_base.specs.declared.plain.Conn.TheVariants as conn
 use Rattle.emh_base.specs.declared.plain.PNet.{PNet}
 use Rattle.emh_base.specs.declared.plain.PPort.{PPort}
 use Rattle.emh_base.specs.declared.plain.PModule.{PModule}
 use Rattle.emh_base.specs.declared.plain.Plain.{Plain}
-use Rattle.flatten_rules.specs.Lookup.{net_of, width, width_of}
+use Rattle.flatten_rules.specs.Lookup.{net_of, width_of}
 use Rattle.flatten_rules.specs.Sound.{IsSoundModule, FitPorts, FitsPort}
 use Rattle.flatten_rules.proofs.Walks.{some-there}
 use Rattle.vlog_read.specs.declared.tree.TConn.{TConn}
@@ -17,11 +15,11 @@ use Rattle.vlog_elab.specs.declared.face.Port.{Port}
 use Rattle.vlog_elab.specs.declared.scope.Net.{Net}
 use Rattle.vlog_elab.specs.Named.{Named, named, numbered}
 use Rattle.vlog_elab.specs.Faces.{row_port, row_port_on}
-use Rattle.vlog_elab.specs.Table.{conn_bits, conn_of, is_to, conn_to, conns_of}
+use Rattle.vlog_elab.specs.Table.{conn_of, is_to, conn_to, conns_of}
 use Rattle.vlog_elab.proofs.Each.{pairs_head, pairs_tail}
 use Rattle.named_tables.specs.NamedTable.{net_name, named_conn}
 use Rattle.named_tables.proofs.Names.{bytes_eq-refl, bytes_eq-other, one-net}
-use Rattle.vlog_write.specs.TreeOf.{port_name, conn_parts, conn_tree, conn_trees}
+use Rattle.vlog_write.specs.TreeOf.{port_name, conn_tree, conn_trees}
 use Rattle.read_back.proofs.Bits.{Keeps, HasBits, conn-back, wide}
 
 -- what is made of items whose names differ is found by their names

@@ -1,5 +1,5 @@
 -- The first round meets no fault inside a written module, whose ports are those of the table.
-use Rattle.std.proofs.Common.{arith, ◌≡◌, ◌≢◌, ℕ, zero, suc, ◌+◌, ◌<◌, ◌≤◌, ◌==◌, nat_lt, Bool, true, false, cond, List, [], ◌∷◌, ◌++◌, map, flat_map, length, get_or, Option, Some, None, IsSome, IsTrue, is_some, option_map, unwrap_or, refl, sym, ap, ◌∙◌, subst, All, AllPairs, append_assoc, true≢false}
+use Rattle.std.proofs.Common.{arith, ◌≡◌, ◌≢◌, ℕ, ◌≤◌, ◌==◌, nat_lt, Bool, true, false, List, [], ◌∷◌, ◌++◌, map, flat_map, get_or, Option, Some, None, IsSome, IsTrue, is_some, option_map, unwrap_or, refl, sym, ap, ◌∙◌, subst, All, append_assoc, true≢false}
 use Rattle.std.specs.Prelude.{◌&&◌, ◌||◌, not, Ok}
 use Rattle.std.proofs.lemmas.Bool.Decides.{nat_tests}
 use Rattle.std.proofs.lemmas.List.{append-nil}
@@ -17,21 +17,21 @@ use Rattle.flatten_rules.specs.Sound.{IsAllowed, IsSoundModule, IsCell}
 use Rattle.flatten_rules.proofs.Sound.{All-find}
 use Rattle.flatten_rules.proofs.Walks.{some-there, none-there}
 use Rattle.vlog_read.specs.declared.tree.At.{At}
-use Rattle.vlog_read.specs.declared.tree.TModule.{TModule}
 use Rattle.vlog_elab.specs.declared.fault.ElabKind.TheVariants as kind
 use Rattle.vlog_elab.specs.declared.face.Port.{Port}
 use Rattle.vlog_elab.specs.declared.said.Said.{Said}
 use Rattle.vlog_elab.specs.Check.{check, check_at, first}
 use Rattle.vlog_elab.specs.Named.{Named, named, is_there}
-use Rattle.vlog_elab.specs.Faces.{Place, Ranged, Directed, Wired, Placed, range_places, item_places, places, said, port_of, ports, row_port, row_port_on}
-use Rattle.vlog_elab.specs.Declarations.{differs_from_direction, differs_from_wire, place_checks, direction_check, inside_checks}
+use Rattle.vlog_elab.specs.Faces.{Place, Ranged, Directed, Wired, Placed, range_places, item_places, places, said, ports, row_port, row_port_on}
+use Rattle.vlog_elab.specs.Declarations.{differs_from_direction, inside_checks}
 use Rattle.vlog_elab.specs.Walk.{Passed}
 use Rattle.vlog_elab.specs.Walks.{header_walk, place_walk, port_walk}
 use Rattle.vlog_elab.proofs.Row.{pairs_map}
 use Rattle.vlog_elab.proofs.Walking.{passed-none, passed-then}
 use Rattle.vlog_elab.proofs.Declaring.{ports-give}
 use Rattle.named_tables.specs.NamedTable.{net_name, net_range}
-use Rattle.vlog_write.specs.TreeOf.{name_at, span_of, port_name, port_item, wire_item, wires, inst_item, module_tree}
+use Rattle.vlog_write.specs.TreeOf.{span_of, port_name, port_item, wire_item, wires, inst_item, module_tree}
+use Rattle.vlog_read.specs.Bare.{name_at}
 use Rattle.read_back.proofs.Conns.{ports-differ, named-mapped}
 use Rattle.read_back.proofs.Steps.{passed-cons, clear1, clear2, clear3}
 use Rattle.read_back.proofs.Modules.{Fresh, fresh-from, span-back, wire_range}
@@ -180,7 +180,7 @@ inside-none M m s =
     no_port (All-filter (λ (net : PNet). not (is_some (port_at m net.id))) (λ (n : PNet). IsAllowed n.range) m.nets s.ranges) (leaf-wires m h m.leaf s.cell))
     (placed-pass m.leaf h M m D W m.insts (leaf-insts m m.leaf s.cell))) in
     let parts : flat_map item_places (map (port_item m) m.ports ++ (map wire_item (wires m) ++ map (inst_item M m) m.insts))
-        ≡ flat_map item_places (map (port_item m) m.ports) ++ (flat_map item_places (map wire_item (wires m)) ++ flat_map item_places (map (inst_item M m) m.insts)) =
+    ≡ flat_map item_places (map (port_item m) m.ports) ++ (flat_map item_places (map wire_item (wires m)) ++ flat_map item_places (map (inst_item M m) m.insts)) =
     flat_map-append item_places (map (port_item m) m.ports) (map wire_item (wires m) ++ map (inst_item M m) m.insts)
     ∙ ap (λ xs. flat_map item_places (map (port_item m) m.ports) ++ xs) (flat_map-append item_places (map wire_item (wires m)) (map (inst_item M m) m.insts)) in
     let q : Passed (place_walk m.leaf h) (said []) (places (module_tree M m)) (record { directions = D; wires = W })

@@ -1,8 +1,8 @@
 -- The second round goes through a written module without a fault, and meets its nets and instances.
-use Rattle.std.proofs.Common.{arith, ◌≡◌, ◌≢◌, ℕ, zero, suc, ◌+◌, ◌<◌, ◌≤◌, ◌==◌, Bool, true, false, cond, List, [], ◌∷◌, ◌++◌, map, flat_map, find, length, get_or, Option, Some, None, IsSome, MatchOption, is_some, is_none, option_map, bytes_eq, refl, sym, ap, ◌∙◌, subst, All, AllPairs, Contains, append_assoc}
-use Rattle.std.specs.Prelude.{◌||◌, not}
+use Rattle.std.proofs.Common.{◌≡◌, ◌≢◌, ℕ, false, cond, List, [], ◌∷◌, ◌++◌, map, flat_map, get_or, Option, Some, None, IsSome, MatchOption, is_none, option_map, refl, sym, ap, ◌∙◌, subst, All, AllPairs, append_assoc}
+use Rattle.std.specs.Prelude.{◌||◌}
 use Rattle.std.specs.List.{list_any}
-use Rattle.std.proofs.lemmas.List.{append-nil, map-append}
+use Rattle.std.proofs.lemmas.List.{append-nil}
 use Rattle.std.proofs.lemmas.Grind.{flat_map-append}
 use Rattle.std.proofs.lemmas.List.Elements.{All-head, All-tail}
 use Rattle.std.proofs.lemmas.List.Folds.{list_any-append}
@@ -22,16 +22,14 @@ use Rattle.flatten_rules.proofs.Walks.{some-there, none-there}
 use Rattle.vlog_read.specs.declared.tree.At.{At}
 use Rattle.vlog_read.specs.declared.tree.Span.{Span}
 use Rattle.vlog_read.specs.declared.tree.TConn.{TConn}
-use Rattle.vlog_read.specs.declared.tree.TModule.{TModule}
 use Rattle.vlog_elab.specs.declared.fault.ElabKind.TheVariants as kind
 use Rattle.vlog_elab.specs.declared.face.Port.{Port}
 use Rattle.vlog_elab.specs.declared.face.Face.{Face}
 use Rattle.vlog_elab.specs.declared.scope.Net.{Net}
-use Rattle.vlog_elab.specs.declared.scope.Scope.{Scope}
-use Rattle.vlog_elab.specs.Check.{Check, check, first, each_after}
+use Rattle.vlog_elab.specs.Check.{check, each_after}
 use Rattle.vlog_elab.specs.Named.{Named, named, is_there}
 use Rattle.vlog_elab.specs.Faces.{row_port, row_port_on}
-use Rattle.vlog_elab.specs.Steps.{Step, Declares, Places, conn_steps, item_steps, inst_steps, steps, ports_of}
+use Rattle.vlog_elab.specs.Steps.{Step, Declares, Places, conn_steps, item_steps, inst_steps}
 use Rattle.vlog_elab.specs.Connections.{port_named, ports_named, is_implied}
 use Rattle.vlog_elab.specs.Walk.{Passed}
 use Rattle.vlog_elab.specs.Walks.{step_walk, with_new}
@@ -39,9 +37,10 @@ use Rattle.vlog_elab.proofs.Each.{pairs_head, pairs_tail}
 use Rattle.vlog_elab.proofs.Row.{pairs_map}
 use Rattle.vlog_elab.proofs.Naming.{there-append, there-one}
 use Rattle.vlog_elab.proofs.Walking.{passed-none, passed-then}
-use Rattle.named_tables.specs.NamedTable.{net_name, net_range, module_name}
+use Rattle.named_tables.specs.NamedTable.{net_range, module_name}
 use Rattle.named_tables.proofs.Names.{bytes_eq-other}
-use Rattle.vlog_write.specs.TreeOf.{name_at, span_of, port_name, port_item, wire_item, wires, conn_tree, conn_trees, inst_conns, inst_tree, inst_item, module_tree}
+use Rattle.vlog_write.specs.TreeOf.{span_of, port_name, port_item, wire_item, wires, conn_tree, conn_trees, inst_conns, inst_item}
+use Rattle.vlog_read.specs.Bare.{name_at}
 use Rattle.read_back.proofs.Bits.{HasBits}
 use Rattle.read_back.proofs.Conns.{row_port-name, fits-has, ports-differ, named-mapped}
 use Rattle.read_back.proofs.Steps.{passed-cons, clear2, Knows, conn-passes}
@@ -58,13 +57,13 @@ fresh-from {V} ns (e ∷ es) new differ =
     let R : List ℕ × V → List ℕ × V → Type 0 = λ a b. a.0 ≢ b.0 in (
       All-head New e es new,
       fresh-from (ns ++ e ∷ []) es
-      (λ k d within.
-      let f : List ℕ × V = get_or es k d in
-      let other : e.0 ≢ f.0 = pairs_head R e es differ k d within in
-      there-append ns (e ∷ []) f.0
-      ∙ ap (λ b. b || is_there (e ∷ []) f.0) (All-tail New e es new k d within)
-      ∙ there-one e f.0 ∙ bytes_eq-other f.0 e.0 (λ same. other (sym same)))
-      (pairs_tail R e es differ),
+          (λ k d within.
+          let f : List ℕ × V = get_or es k d in
+          let other : e.0 ≢ f.0 = pairs_head R e es differ k d within in
+          there-append ns (e ∷ []) f.0
+          ∙ ap (λ b. b || is_there (e ∷ []) f.0) (All-tail New e es new k d within)
+          ∙ there-one e f.0 ∙ bytes_eq-other f.0 e.0 (λ same. other (sym same)))
+          (pairs_tail R e es differ),
     )
 
 -- Declarations.

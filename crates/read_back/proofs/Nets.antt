@@ -1,11 +1,10 @@
 -- The nets of a written module: as they are declared, and as the second round meets them.
-use Rattle.std.proofs.Common.{arith, ◌≡◌, ◌≢◌, ℕ, zero, suc, ◌+◌, ◌<◌, ◌≤◌, ◌==◌, Bool, true, false, cond, List, [], ◌∷◌, ◌++◌, map, flat_map, find, filter, length, get_or, Option, Some, None, IsSome, is_some, bytes_eq, refl, sym, ap, ◌∙◌, subst, All, AllPairs, Contains, append_assoc, true≢false}
+use Rattle.std.proofs.Common.{arith, ◌≡◌, ◌≢◌, ℕ, zero, suc, ◌+◌, ◌<◌, ◌==◌, Bool, true, false, cond, List, [], ◌∷◌, ◌++◌, map, flat_map, find, filter, length, get_or, Option, Some, None, is_some, refl, sym, ap, ◌∙◌, subst, All, AllPairs, Contains, append_assoc, true≢false}
 use Rattle.std.specs.Prelude.{not}
-use Rattle.std.specs.List.{IsDistinct}
 use Rattle.std.proofs.lemmas.Bool.Decides.{nat_tests}
-use Rattle.std.proofs.lemmas.List.{append-nil, map-append, length-map, length-append, get_or-map, get_or_append_left, get_or-append-add}
+use Rattle.std.proofs.lemmas.List.{map-append, length-map, length-append, get_or-map, get_or_append_left, get_or-append-add}
 use Rattle.std.proofs.lemmas.Grind.{flat_map-append}
-use Rattle.std.proofs.lemmas.List.Elements.{All-head, All-tail, All-filter, filter_passes, All-map, All-append, All-contains, Contains-append_left, Contains-append_right}
+use Rattle.std.proofs.lemmas.List.Elements.{All-head, All-tail, All-filter, filter_passes, All-map, All-append, Contains-append_left, Contains-append_right}
 use Rattle.std.proofs.lemmas.Map.Made.{AllPairs-from_IsDistinct}
 use Rattle.std.proofs.lemmas.Slice.Eq.{bytes_eq-Decides}
 use Rattle.emh_base.specs.declared.ids.NetId.{NetId}
@@ -18,7 +17,6 @@ use Rattle.emh_base.specs.declared.plain.Plain.{Plain}
 use Rattle.flatten_rules.specs.Lookup.{net_of, port_of}
 use Rattle.flatten_rules.specs.Sound.{IsSound, IsSoundModule}
 use Rattle.flatten_rules.proofs.Walks.{some-there, find-own, find-passes, id-of_net}
-use Rattle.vlog_read.specs.declared.tree.TModule.{TModule}
 use Rattle.vlog_elab.specs.declared.face.Face.{Face}
 use Rattle.vlog_elab.specs.declared.scope.Net.{Net}
 use Rattle.vlog_elab.specs.declared.scope.Scope.{Scope}
@@ -26,20 +24,20 @@ use Rattle.vlog_elab.specs.Check.{first}
 use Rattle.vlog_elab.specs.Named.{Named, named, is_there}
 use Rattle.vlog_elab.specs.Steps.{Step, item_steps, steps}
 use Rattle.vlog_elab.specs.Connections.{inner_checks}
-use Rattle.vlog_elab.specs.Table.{nets, insts}
+use Rattle.vlog_elab.specs.Table.{nets}
 use Rattle.vlog_elab.specs.Walk.{Passed}
 use Rattle.vlog_elab.specs.Walks.{step_walk}
 use Rattle.vlog_elab.proofs.Each.{pairs_none, pairs_cons, pairs_head, pairs_tail, pairs_append}
 use Rattle.vlog_elab.proofs.Row.{pairs_map}
 use Rattle.vlog_elab.proofs.Walking.{passed-then}
 use Rattle.vlog_elab.proofs.Joining.{inner_checks-walk}
-use Rattle.vlog_elab.proofs.Mentions.{inst_name, at_last}
+use Rattle.vlog_elab.proofs.Mentions.{at_last}
 use Rattle.named_tables.specs.NamedTable.{net_name, net_range}
 use Rattle.named_tables.proofs.Names.{bytes_eq-other, found-at, one-net, nets-differ}
 use Rattle.vlog_write.specs.TreeOf.{port_name, port_item, wire_item, wires, inst_item, module_tree}
 use Rattle.read_back.proofs.Conns.{ports-differ, named-mapped}
 use Rattle.read_back.proofs.Steps.{Knows}
-use Rattle.read_back.proofs.Modules.{Fresh, fresh-from, entry, declare, declares-pass, port_range, wire_range, all_ranges, port-steps, wire-steps, HasFaces, inst_key, insts-pass}
+use Rattle.read_back.proofs.Modules.{fresh-from, entry, declare, declares-pass, port_range, wire_range, all_ranges, port-steps, wire-steps, HasFaces, inst_key, insts-pass}
 
 pub pairs-filter : {X : Type 0} (R : X → X → Type 0) (p : X → Bool) (xs : List X) → AllPairs R xs → AllPairs R (filter p xs)
 pairs-filter R p [] h = pairs_none R

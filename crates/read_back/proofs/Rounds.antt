@@ -1,30 +1,27 @@
 -- The first two rounds meet no fault.
-use Rattle.std.proofs.Common.{arith, ◌≡◌, ◌≢◌, ℕ, zero, suc, ◌+◌, ◌<◌, ◌≤◌, ◌==◌, Bool, true, false, cond, List, [], ◌∷◌, ◌++◌, map, flat_map, length, get_or, Option, Some, None, is_some, refl, sym, ap, ◌∙◌, subst, All, AllPairs, Contains, append_assoc}
+use Rattle.std.proofs.Common.{arith, ◌≡◌, ◌≢◌, ℕ, zero, suc, ◌+◌, ◌<◌, ◌≤◌, ◌==◌, Bool, true, false, cond, List, [], ◌∷◌, ◌++◌, map, length, get_or, Some, None, refl, sym, ap, ◌∙◌, subst, All, AllPairs, append_assoc}
 use Rattle.std.specs.Prelude.{◌&&◌, ◌||◌, not, Ok}
 use Rattle.std.proofs.lemmas.Bool.Decides.{nat_tests}
-use Rattle.std.proofs.lemmas.List.{append-nil, length-map}
-use Rattle.std.proofs.lemmas.List.Elements.{All-head, All-tail, Contains-get_or}
-use Rattle.emh_base.specs.declared.ids.ModId.{ModId}
+use Rattle.std.proofs.lemmas.List.{append-nil}
+use Rattle.std.proofs.lemmas.List.Elements.{All-head, All-tail}
 use Rattle.emh_base.specs.declared.plain.PModule.{PModule}
 use Rattle.emh_base.specs.declared.plain.Plain.{Plain}
-use Rattle.flatten_rules.specs.Lookup.{module_of}
 use Rattle.flatten_rules.specs.Sound.{IsSound, IsSoundModule}
 use Rattle.emh_base.specs.declared.plain.PPort.{PPort}
 use Rattle.flatten_rules.proofs.Sound.{sound-module}
 use Rattle.flatten_rules.proofs.Walks.{none-there}
 use Rattle.vlog_read.specs.declared.tree.TModule.{TModule}
-use Rattle.vlog_read.specs.declared.tree.Tree.{Tree}
 use Rattle.vlog_elab.specs.declared.fault.ElabKind.TheVariants as kind
 use Rattle.vlog_elab.specs.declared.face.Face.{Face}
 use Rattle.vlog_elab.specs.declared.face.Known.{Known}
 use Rattle.vlog_elab.specs.Check.{Check, check, first}
 use Rattle.vlog_elab.specs.Named.{Named, named, is_there, numbered}
-use Rattle.vlog_elab.specs.Faces.{face, face_with, ports, row_port, faces, known}
-use Rattle.vlog_elab.specs.Declarations.{is_taken, has_other_ports, inside_checks, entry_checks, name_check}
+use Rattle.vlog_elab.specs.Faces.{face, ports, row_port, known}
+use Rattle.vlog_elab.specs.Declarations.{is_taken, has_other_ports}
 use Rattle.vlog_elab.specs.Connections.{inner_checks}
 use Rattle.vlog_elab.specs.Elaboration.{checks}
 use Rattle.vlog_elab.specs.Walk.{Passed, or_else}
-use Rattle.vlog_elab.specs.Walks.{module_walk, with_module}
+use Rattle.vlog_elab.specs.Walks.{module_walk}
 use Rattle.vlog_elab.proofs.Each.{pairs_head, pairs_tail}
 use Rattle.vlog_elab.proofs.Walking.{passed-none, passed-then, first-append}
 use Rattle.vlog_elab.proofs.Declaring.{module-gives}
@@ -32,12 +29,12 @@ use Rattle.vlog_elab.proofs.Rounds.{checks_by, both-pass}
 use Rattle.vlog_elab.proofs.Naming.{there-append, there-one}
 use Rattle.named_tables.proofs.Names.{found-at, bytes_eq-refl, bytes_eq-other}
 use Rattle.vlog_write.specs.TreeOf.{module_tree, in_written_order, tree_of}
-use Rattle.read_back.specs.Law.{no_modules}
+use Rattle.flatten_rules.specs.Lookup.{no_modules}
 use Rattle.read_back.proofs.Steps.{clear1, clear2}
 use Rattle.read_back.proofs.Modules.{HasFaces}
 use Rattle.read_back.proofs.Nets.{inner-none}
 use Rattle.read_back.proofs.Inside.{dir_entry, row_port-is, inside-none}
-use Rattle.read_back.proofs.Written.{written-all, written-from, written-has, written-differ, many}
+use Rattle.read_back.proofs.Written.{written-all, written-has, written-differ, many}
 
 module _ (M : Plain) where
   abbrev trees : List PModule → List TModule

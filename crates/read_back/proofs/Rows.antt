@@ -1,13 +1,9 @@
 -- The table that is made is the one that was written, by names.
-use Rattle.std.proofs.Common.{arith, ◌≡◌, ◌≢◌, ℕ, zero, suc, ◌+◌, ◌<◌, ◌≤◌, ◌==◌, Bool, true, false, cond, List, [], ◌∷◌, ◌++◌, map, flat_map, find, length, get_or, slice_get, Option, Some, None, IsSome, is_some, MatchOption, option_map, bytes_eq, refl, sym, ap, ◌∙◌, subst, All, AllPairs, Contains}
-use Rattle.std.specs.Prelude.{◌||◌}
-use Rattle.std.specs.List.{list_any}
+use Rattle.std.proofs.Common.{arith, ◌≡◌, ◌≢◌, ℕ, ◌+◌, ◌≤◌, Bool, true, false, cond, List, [], ◌∷◌, ◌++◌, map, flat_map, find, length, Option, Some, None, IsSome, is_some, MatchOption, option_map, bytes_eq, refl, sym, ap, ◌∙◌, subst, All}
 use Rattle.std.proofs.lemmas.Cmp.{nat_list_eq_equiv}
 use Rattle.std.proofs.lemmas.Slice.Eq.{bytes_eq-Decides}
-use Rattle.std.proofs.lemmas.Option.{slice_get-get_or, slice_get-map}
-use Rattle.std.proofs.lemmas.List.{append-nil, length-map}
 use Rattle.std.proofs.lemmas.Grind.{flat_map-append}
-use Rattle.std.proofs.lemmas.List.Elements.{All-head, All-tail, All-map, All-contains}
+use Rattle.std.proofs.lemmas.List.Elements.{All-head, All-tail, All-map}
 use Rattle.emh_base.specs.declared.ids.ModId.{ModId}
 use Rattle.emh_base.specs.declared.ids.NetId.{NetId}
 use Rattle.emh_base.specs.declared.plain.Range.{Range}
@@ -18,8 +14,7 @@ use Rattle.emh_base.specs.declared.plain.PModule.{PModule}
 use Rattle.emh_base.specs.declared.plain.Plain.{Plain}
 use Rattle.flatten_rules.specs.Lookup.{module_of, net_of}
 use Rattle.flatten_rules.specs.Sound.{IsSound, IsSoundModule, HasMaster, FitPorts}
-use Rattle.flatten_rules.specs.Design.{module_named}
-use Rattle.flatten_rules.proofs.Sound.{All-find, sound-module, master-there}
+use Rattle.flatten_rules.proofs.Sound.{sound-module, master-there}
 use Rattle.flatten_rules.proofs.Walks.{some-there, find-own, find-passes}
 use Rattle.vlog_read.specs.declared.tree.At.{At}
 use Rattle.vlog_read.specs.declared.tree.TInst.{TInst}
@@ -28,23 +23,20 @@ use Rattle.vlog_elab.specs.declared.face.Face.{Face}
 use Rattle.vlog_elab.specs.declared.face.Port.{Port}
 use Rattle.vlog_elab.specs.declared.scope.Net.{Net}
 use Rattle.vlog_elab.specs.Named.{Named, named, is_there, numbered}
-use Rattle.vlog_elab.specs.Faces.{face, ports, row_port}
+use Rattle.vlog_elab.specs.Faces.{ports, row_port}
 use Rattle.vlog_elab.specs.Steps.{ports_of}
-use Rattle.vlog_elab.specs.Connections.{net_range as met_range}
 use Rattle.vlog_elab.specs.Table.{nets, net_id, insts_in, insts, master_id, conns_of, inst_row, net_row, port_row, row}
-use Rattle.vlog_elab.proofs.Each.{pairs_head, pairs_tail}
-use Rattle.vlog_elab.proofs.Finding.{found_by_number}
 use Rattle.vlog_elab.proofs.Row.{net_by_name}
-use Rattle.named_tables.specs.NamedTable.{NamedPort, NamedInst, NamedModule, NamedTable, net_name, net_range, module_name, net_named, named_port, named_conn, named_inst, named_module, named_table}
-use Rattle.named_tables.proofs.Names.{found-at, net-own, bytes_eq-refl, bytes_eq-other}
-use Rattle.vlog_write.specs.TreeOf.{name_at, port_name, port_item, wire_item, wires, inst_conns, inst_tree, inst_item, module_tree, in_written_order}
+use Rattle.named_tables.specs.NamedTable.{net_name, net_range, module_name, net_named, named_port, named_conn, named_inst, named_module}
+use Rattle.named_tables.proofs.Names.{found-at, net-own}
+use Rattle.vlog_write.specs.TreeOf.{port_name, port_item, wire_item, wires, inst_conns, inst_tree, inst_item, module_tree, in_written_order}
+use Rattle.vlog_read.specs.Bare.{name_at}
 use Rattle.read_back.proofs.Bits.{Keeps}
 use Rattle.read_back.proofs.Conns.{conns-back}
 use Rattle.read_back.proofs.Modules.{entry, all_ranges}
-use Rattle.read_back.proofs.Nets.{IsNet, absent, ranges-nets, range-known, nets-made}
+use Rattle.read_back.proofs.Nets.{absent, ranges-nets, range-known, nets-made}
 use Rattle.read_back.proofs.Inside.{dir_entry, inside-none}
-use Rattle.read_back.proofs.Written.{written-all, written-from, written-has, written-differ}
-use Rattle.read_back.proofs.Rounds.{faces_of, face-at, has-faces}
+use Rattle.read_back.proofs.Rounds.{faces_of, has-faces}
 
 turned : (a b : List ℕ) → bytes_eq a b ≡ bytes_eq b a
 turned a b = nat_list_eq_equiv.symm a b

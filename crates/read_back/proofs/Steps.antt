@@ -1,9 +1,9 @@
 -- The second round meets no fault at what was written.
-use Rattle.std.proofs.Common.{arith, ◌≡◌, ◌≢◌, ℕ, zero, suc, ◌+◌, ◌-◌, ◌<◌, ◌≤◌, ◌==◌, nat_lt, nat_le, Bool, true, false, cond, List, [], ◌∷◌, ◌++◌, map, length, get_or, slice_get, Option, Some, None, IsSome, is_some, is_none, option_and_then, option_map, bytes_eq, refl, sym, ap, ◌∙◌, subst, All, AllPairs, append_assoc, true≢false}
+use Rattle.std.proofs.Common.{arith, ◌≡◌, ℕ, ◌+◌, ◌-◌, ◌<◌, ◌≤◌, ◌==◌, nat_lt, nat_le, Bool, true, false, cond, List, [], ◌∷◌, ◌++◌, map, length, slice_get, Option, Some, None, is_some, is_none, option_and_then, option_map, refl, sym, ap, ◌∙◌, subst, All}
 use Rattle.std.specs.Prelude.{◌&&◌, ◌||◌, not}
-use Rattle.std.specs.List.{sum_by, list_any, range_with_len, flat_map}
+use Rattle.std.specs.List.{sum_by, list_any}
 use Rattle.std.proofs.lemmas.Bool.Decides.{nat_tests}
-use Rattle.std.proofs.lemmas.List.{length-map, append-nil}
+use Rattle.std.proofs.lemmas.List.{append-nil}
 use Rattle.std.proofs.lemmas.List.Elements.{All-head, All-tail}
 use Rattle.std.proofs.lemmas.List.FromFn.{length-map-range_with_len}
 use Rattle.std.proofs.lemmas.List.Sums.{sum_by-cons}
@@ -15,30 +15,29 @@ use Rattle.emh_base.specs.declared.plain.Src.TheVariants as src
 use Rattle.emh_base.specs.declared.plain.Conn.{Conn}
 use Rattle.emh_base.specs.declared.plain.Conn.TheVariants as conn
 use Rattle.emh_base.specs.declared.plain.PNet.{PNet}
-use Rattle.emh_base.specs.declared.plain.PPort.{PPort}
 use Rattle.emh_base.specs.declared.plain.PModule.{PModule}
-use Rattle.emh_base.specs.declared.plain.Plain.{Plain}
-use Rattle.flatten_rules.specs.Lookup.{net_of, width, width_of}
+use Rattle.flatten_rules.specs.Lookup.{net_of, width}
 use Rattle.flatten_rules.specs.Sound.{IsSource}
 use Rattle.vlog_read.specs.declared.tree.At.{At}
 use Rattle.vlog_read.specs.declared.tree.Part.{Part}
-use Rattle.vlog_read.specs.declared.tree.Part.TheVariants.{Name, Bit, Bits, Lit}
+use Rattle.vlog_read.specs.declared.tree.Part.TheVariants.{Name, Bit, Lit}
 use Rattle.vlog_read.specs.declared.tree.TConn.{TConn}
 use Rattle.vlog_elab.specs.declared.face.Port.{Port}
 use Rattle.vlog_elab.specs.declared.scope.Net.{Net}
 use Rattle.vlog_elab.specs.declared.scope.Scope.{Scope}
 use Rattle.vlog_elab.specs.declared.fault.ElabKind.TheVariants as kind
-use Rattle.vlog_elab.specs.Check.{Check, check, check_at, first, each_after}
+use Rattle.vlog_elab.specs.Check.{Check, check, check_at, first}
 use Rattle.vlog_elab.specs.Named.{Named, named, is_there, place_of}
-use Rattle.vlog_elab.specs.Steps.{Step, Connects, Uses, Fits, conn_steps, net_at, inst_at}
-use Rattle.vlog_elab.specs.Connections.{net_range as met_range, ports_named, mixes, conn_checks, has_index, part_checks, part_width, port_at, port_place, width_checks, step_checks}
+use Rattle.vlog_elab.specs.Steps.{Connects, Uses, Fits, conn_steps}
+use Rattle.vlog_elab.specs.Connections.{net_range as met_range, ports_named, mixes, has_index, part_width, port_at, width_checks}
 use Rattle.vlog_elab.specs.Walk.{Walk, Passed, or_else, first_fault, at_end}
-use Rattle.vlog_elab.specs.Walks.{after_step, step_walk, with_new}
+use Rattle.vlog_elab.specs.Walks.{step_walk, with_new}
 use Rattle.vlog_elab.proofs.Naming.{value-at}
 use Rattle.vlog_elab.proofs.Walking.{passed-none, passed-then}
 use Rattle.named_tables.specs.NamedTable.{net_name, net_range}
-use Rattle.vlog_write.specs.TreeOf.{name_at, bit_part, source_part, are_whole, first_name, parts_of, conn_parts, conn_tree}
-use Rattle.read_back.proofs.Bits.{HasBits, Whole, whole, net-there}
+use Rattle.vlog_write.specs.TreeOf.{bit_part, source_part, are_whole, first_name, parts_of, conn_parts, conn_tree}
+use Rattle.vlog_read.specs.Bare.{name_at}
+use Rattle.read_back.proofs.Bits.{HasBits, whole, net-there}
 
 pub passed-cons : {S X : Type 0} (w : Walk S X) (s mid t : S) (x : X) (xs : List X) → first (w.checks s x) ≡ None → w.after s x ≡ mid → Passed w mid xs t → Passed w s (x ∷ xs) t
 passed-cons w s mid t x xs clear after rest = record {

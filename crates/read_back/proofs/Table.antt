@@ -1,4 +1,4 @@
--- The law of reading back.
+-- The tree of a sound table gives a table that is the same by names.
 use Rattle.std.proofs.Common.{arith, ◌≡◌, ◌≢◌, ℕ, zero, suc, ◌+◌, ◌<◌, ◌≤◌, ◌==◌, Bool, true, false, cond, List, [], ◌∷◌, ◌++◌, map, find, length, get_or, slice_get, Option, Some, None, option_map, bytes_eq, refl, sym, ap, ◌∙◌, subst, All, AllPairs, Contains}
 use Rattle.std.specs.Prelude.{◌||◌}
 use Rattle.std.specs.List.{list_any}
@@ -9,29 +9,28 @@ use Rattle.std.proofs.lemmas.Option.{slice_get-get_or, slice_get-map}
 use Rattle.emh_base.specs.declared.ids.ModId.{ModId}
 use Rattle.emh_base.specs.declared.plain.PModule.{PModule}
 use Rattle.emh_base.specs.declared.plain.Plain.{Plain}
-use Rattle.flatten_rules.specs.Lookup.{module_of}
+use Rattle.flatten_rules.specs.Lookup.{module_of, no_modules}
 use Rattle.flatten_rules.specs.Sound.{IsSound, IsSoundModule}
 use Rattle.flatten_rules.specs.Design.{module_named}
-use Rattle.flatten_rules.proofs.Sound.{All-find}
 use Rattle.flatten_rules.proofs.Walks.{find-passes, find-own}
 use Rattle.vlog_read.specs.declared.tree.TModule.{TModule}
 use Rattle.vlog_elab.specs.declared.face.Face.{Face}
 use Rattle.vlog_elab.specs.declared.face.Known.{Known}
 use Rattle.vlog_elab.specs.Check.{each_after}
 use Rattle.vlog_elab.specs.Named.{Named, named, numbered}
-use Rattle.vlog_elab.specs.Faces.{face, has_module, added, faces, known}
+use Rattle.vlog_elab.specs.Faces.{face, has_module, added, faces}
 use Rattle.vlog_elab.specs.Table.{row, built}
 use Rattle.vlog_elab.specs.Elaboration.{Elaborates}
 use Rattle.vlog_elab.proofs.Each.{pairs_head, pairs_tail}
 use Rattle.vlog_elab.proofs.Finding.{found_by_number}
-use Rattle.named_tables.specs.NamedTable.{NamedTable, module_name, named_module, named_table}
+use Rattle.named_tables.specs.NamedTable.{module_name, named_module, named_table}
 use Rattle.named_tables.proofs.Names.{found-at, bytes_eq-refl, bytes_eq-other}
 use Rattle.vlog_write.specs.TreeOf.{module_tree, in_written_order, tree_of}
-use Rattle.read_back.specs.Law.{no_modules, ReadBack, ReadsBack}
 use Rattle.read_back.proofs.Written.{written-all, written-from, written-has, written-differ, few-modules}
 use Rattle.read_back.proofs.Rounds.{faces_of, face-at, has-faces, rounds-none}
 use Rattle.read_back.proofs.Rows.{HasRows, row-back}
-use Rattle.read_back.proofs.Cycle.{Twin, no-cycle}
+use Rattle.named_tables.specs.Law.{IsSoundButCycles}
+use Rattle.named_tables.proofs.Cycles.{Twin, cycle-back}
 
 same-true : (a b : List ℕ) → a ≡ b → bytes_eq a b ≡ true
 same-true a b e = grind (arith, bytes_eq-Decides)
@@ -196,14 +195,26 @@ module _ (M : Plain) (sound : IsSound M) (few : length M.modules ≤ 4294967295)
         same = ap (named_module B) from.is ∙ row-same from.number m has;
       }
 
-pub reads_back : ReadsBack
-reads_back M sound low =
+but-cycles : (M : Plain) → IsSound M → IsSoundButCycles M
+but-cycles M sound = record { names = sound.names; rise = sound.rise; modules = sound.modules }
+
+-- over no modules the tree of a sound table gives a table that is the same by names
+pub record TreeReadsBack (M : Plain) : Type 0 where
+  pub made : Plain
+  pub elaborates : Elaborates no_modules false (tree_of M) made
+  pub same : named_table made ≡ named_table M
+
+pub tree-reads-back : (M : Plain) → IsSound M → M.next_module ≤ 4294967295 → TreeReadsBack M
+tree-reads-back M sound low =
     let few : length M.modules ≤ 4294967295 = few-modules M sound low in
+    let made : Plain = built no_modules false (tree_of M) in
     record {
-      made = built no_modules false (tree_of M);
+      made = made;
       elaborates = record {
         passed = (rounds-none M sound few).0;
-        no_cycle = λ k r low high at cycle. no-cycle M (built no_modules false (tree_of M)) sound (twins M sound few) r cycle;
+        no_cycle = λ k r low high at cycle.
+            let back = cycle-back M (built no_modules false (tree_of M)) (but-cycles M sound) (twins M sound few) r cycle in
+            sound.no_cycle back.0 back.2;
         table = refl;
       };
       same = same M sound few;

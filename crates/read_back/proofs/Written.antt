@@ -1,12 +1,12 @@
 -- The modules in written order: the same as in the table.
-use Rattle.std.proofs.Common.{arith, ◌≡◌, ◌≢◌, ℕ, zero, suc, ◌+◌, ◌<◌, ◌≤◌, Bool, true, false, cond, List, [], ◌∷◌, ◌++◌, map, filter, length, get_or, refl, sym, ap, ◌∙◌, subst, All, AllPairs, Contains, ⊎_elim}
+use Rattle.std.proofs.Common.{arith, ◌≡◌, ◌≢◌, ℕ, zero, suc, ◌+◌, ◌<◌, ◌≤◌, Bool, true, false, cond, List, [], ◌∷◌, filter, length, get_or, refl, sym, ap, ◌∙◌, All, AllPairs, Contains, ⊎_elim}
 use Rattle.std.specs.Prelude.{not}
 use Rattle.std.proofs.lemmas.List.{get_or_default, length-append}
 use Rattle.std.proofs.lemmas.Bool.{cases_lt}
-use Rattle.std.proofs.lemmas.List.Elements.{All-filter, All-append, All-contains, All-contains_itself, filter_passes, Contains-append_left, Contains-append_right}
+use Rattle.std.proofs.lemmas.List.Elements.{All-filter, All-append, All-contains_itself, filter_passes, Contains-append_left, Contains-append_right}
 use Rattle.emh_base.specs.declared.plain.PModule.{PModule}
 use Rattle.emh_base.specs.declared.plain.Plain.{Plain}
-use Rattle.flatten_rules.specs.Sound.{IsSound, IsSoundModule}
+use Rattle.flatten_rules.specs.Sound.{IsSound}
 use Rattle.vlog_elab.proofs.Each.{pairs_append}
 use Rattle.named_tables.proofs.Names.{modules-differ}
 use Rattle.vlog_write.specs.TreeOf.{in_written_order}

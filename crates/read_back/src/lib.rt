@@ -1,12 +1,6 @@
-//! What is written reads back.
+//! Written Verilog reads back: to the same table by names, and so to the same flat netlist.
 #![tactic(auto)]
 
-ghost use Rattle.read_back.specs.Law.{ReadsBack, ReadsBackFlat};
-ghost use Rattle.vlog_read.specs.Bare.{PlacesOnlyTell};
+mod law;
 
-/// The law: the tree of a sound table elaborates over the empty table, to a table that is the same by names.
-pub fn reads_back()
-    ensures table { ReadsBack }
-    ensures flat { ReadsBackFlat }
-    ensures places { PlacesOnlyTell }
-{}
+pub use law::{each_table_reads_back, table_reads_back};
