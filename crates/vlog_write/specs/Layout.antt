@@ -1,5 +1,5 @@
 -- How a tree is laid out as words; the form stands above each definition. This project's own.
-use Rattle.std.specs.Prelude.{ℕ, Bool, true, false, ◌==◌, List, [], ◌∷◌, ◌++◌, map, Option, Some, None}
+use Rattle.std.specs.Prelude.{Bool, true, false, ◌==◌, List, [], ◌∷◌, ◌++◌, map, Option, Some, None}
 use Rattle.std.specs.List.{flat_map}
 use Rattle.emh_base.specs.declared.plain.Dir.{Dir}
 use Rattle.vlog_read.specs.declared.tree.TModule.{TModule}
@@ -7,7 +7,6 @@ use Rattle.vlog_read.specs.declared.tree.At.{At}
 use Rattle.vlog_read.specs.declared.tree.Span.{Span}
 use Rattle.vlog_read.specs.declared.tree.Header.{Header}
 use Rattle.vlog_read.specs.declared.tree.Header.TheVariants.{Names, Decls}
-use Rattle.vlog_read.specs.declared.tree.Decl.{Decl}
 use Rattle.vlog_read.specs.declared.tree.Item.{Item}
 use Rattle.vlog_read.specs.declared.tree.Item.TheVariants.{Decl as Declaration, Insts}
 use Rattle.vlog_read.specs.declared.tree.TInst.{TInst}

@@ -3,4 +3,5 @@ pub mod Layout
 pub mod TreeOf
 pub mod Written
 pub mod Law
+pub mod Worked
 pub mod inside

@@ -1,5 +1,5 @@
 -- Which trees are read again as they were written: what a name, a number, a literal and a declaration have to be.
-use Rattle.std.specs.Prelude.{◌≡◌, ◌≢◌, ℕ, ◌<◌, ◌^◌, Bool, true, false, List, [], ◌∷◌, Option, Some, None, IsTrue}
+use Rattle.std.specs.Prelude.{◌≡◌, ◌<◌, ◌^◌, Bool, true, List, [], ◌∷◌, Option, Some, None}
 use Rattle.std.specs.List.{AllByRecursion}
 use Rattle.emh_base.specs.declared.plain.Dir.{Dir}
 use Rattle.emh_base.specs.Name.{IsName}
@@ -8,7 +8,6 @@ use Rattle.vlog_read.specs.declared.tree.At.{At}
 use Rattle.vlog_read.specs.declared.tree.Span.{Span}
 use Rattle.vlog_read.specs.declared.tree.Header.{Header}
 use Rattle.vlog_read.specs.declared.tree.Header.TheVariants.{Names, Decls}
-use Rattle.vlog_read.specs.declared.tree.Decl.{Decl}
 use Rattle.vlog_read.specs.declared.tree.Item.{Item}
 use Rattle.vlog_read.specs.declared.tree.Item.TheVariants.{Decl as Declaration, Insts}
 use Rattle.vlog_read.specs.declared.tree.TInst.{TInst}
