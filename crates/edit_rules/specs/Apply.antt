@@ -1,5 +1,5 @@
 -- The effect of an edit: what refuses it, or the state after it and the change that is told of it. This project's own.
-use Rattle.std.specs.Prelude.{ℕ, true, false, List, [], Option, Some, None, option_to_list}
+use Rattle.std.specs.Prelude.{◌≡◌, ℕ, ◌<◌, true, false, List, [], Option, Some, None, option_to_list}
 use Rattle.std.specs.FinMap.{insert, remove}
 use Rattle.emh_base.specs.declared.plain.Conn.{Conn}
 use Rattle.emh_base.specs.declared.plain.Plain.{Plain}
@@ -103,6 +103,10 @@ made M (CreatePort m name dir range) = Some (next_net_of (module_of M m))
 made M (CreateInst m name master) = Some (next_inst_of (module_of M m))
 made M (Uniquify m inst name) = Some M.next_module
 made M _ = None
+
+-- there is an id left for what an edit makes
+abbrev pub HasRoom : Plain → Edit → Type 0
+HasRoom M e = (id : ℕ) → made M e ≡ Some id → id < 4294967295
 
 abbrev pub change : State → By → Edit → Change
 change S by e = record { edit = e; by = by; was = was S.plain e; made = made S.plain e }

@@ -4,7 +4,6 @@
 mod apply;
 mod changes;
 mod count;
-mod create;
 mod depth;
 mod facts;
 mod good;
@@ -21,7 +20,6 @@ mod rewrite;
 mod settings;
 mod spots;
 mod table;
-mod width;
 
 pub use apply::apply_plain;
 pub use facts::{Counters, Facts, Spot, Totals};

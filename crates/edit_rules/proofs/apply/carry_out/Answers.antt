@@ -4,4 +4,4 @@ use Rattle.edit_rules.proofs.OrderLemmas.{order-after}
 use Rattle.edit_rules.proofs.apply.carry_out.Goals as goal
 
 pub places_after-requires : goal.places_after-requires
-places_after-requires c = subst InOrder (sym c.requires.made) (order-after c.args.state.now.plain c.args.edit.now c.requires.sound)
+places_after-requires c = subst InOrder (sym c.in_ok-table.ensures) (order-after c.args.state.now.plain c.args.edit.now c.requires.sound)
