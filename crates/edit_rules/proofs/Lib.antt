@@ -31,3 +31,4 @@ pub mod GoodPorts
 pub mod GoodMasters
 pub mod GoodCopies
 pub mod GoodLaw
+pub mod SurvivalLemmas

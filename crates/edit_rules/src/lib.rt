@@ -25,4 +25,4 @@ pub use apply::apply_plain;
 pub use facts::{Counters, Facts, Spot, Totals};
 pub use good::is_good_state;
 pub use judged::{Judged, Need, judge};
-pub use laws::{each_edit_stays_good, worked_edits};
+pub use laws::{each_edit_stays_good, survivors_stay_placed, worked_edits};
