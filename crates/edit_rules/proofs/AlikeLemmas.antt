@@ -103,13 +103,6 @@ module _ (name : List ℕ) (M : Plain) where
   bare-ids [] = refl
   bare-ids (x ∷ xs) = ap (λ ids. x.id ∷ ids) (bare-ids xs)
 
-  pub outline-alike : IsAlike (outline name M) M
-  outline-alike = record {
-    ids = bare-ids M.modules;
-    masters = λ x. ap masters_of (bare-found x) ∙ masters-by (module_of M x);
-    bits = λ x. ap bits_of (bare-found x) ∙ bits-by (module_of M x);
-  }
-
   -- with an instance more
   module _ (id : ModId) (new : List ℕ) (master : ModId) (conns others : List Conn) where
     alone : PModule → PModule

@@ -53,11 +53,6 @@ module _ (weight : Weight) (M : Plain) where
       ∙ get_or-map (λ (x : PModule). counted weight M levels x.id) M.modules place m 0 within
       ∙ ap (counted weight M levels) own
 
-  pub place-within : (levels : ℕ) (level : List ℕ) (id : ModId) (place : ℕ) → IsSomeAnd (slice_get M.modules place) (λ m. module_of M id ≡ Some m) → place < length M.modules
-  place-within levels level id place found =
-      let there = some_and (slice_get M.modules place) (λ m. module_of M id ≡ Some m) found in
-      slice_get_within M.modules place there.0 there.1
-
 -- no module counts down to no level
 pub level-nowhere : (weight : Weight) (M : Plain) → map (λ (m : PModule). 0) M.modules ≡ level_of weight M 0
 unfolding total

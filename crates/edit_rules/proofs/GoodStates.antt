@@ -19,6 +19,7 @@ use Rattle.flatten_rules.specs.Design.{IsGood}
 use Rattle.edit_rules.specs.Readers.{is_buffer, are_buffer_ports, is_bad_grid}
 use Rattle.edit_rules.specs.Spots.{is_leaf_path, kept, place_rules}
 use Rattle.edit_rules.specs.Settings.{set_fanout_rules, set_grid_rules}
+use Rattle.edit_rules.specs.Carry.{carried}
 use Rattle.edit_rules.specs.Apply.{after}
 use Rattle.edit_rules.specs.Good.{IsFanout, IsGoodState}
 use Rattle.edit_rules.proofs.GoodChecks.{Passes, first-passes, not-false}
@@ -51,11 +52,15 @@ module _ (M N : Plain) (top : ModId) (keeps : KeepsGood M N top) where
   pub fanout-kept : (fanout : Fanout) → IsFanout M fanout → IsFanout N fanout
   fanout-kept fanout is = record { buffer = buffer-kept fanout.cell is.buffer; number = is.number }
 
+-- the placements where an edit carries their paths
+abbrev moved : State → PlacesByPath
+moved S = carried (λ path. Some path) S.places
+
 pub stays : (S : State) (N : Plain) → IsGoodState S → KeepsGood S.plain N S.top
-    → IsGoodState (record { plain = N; top = S.top; places = kept N S.top S.places; settings = S.settings })
+    → IsGoodState (record { plain = N; top = S.top; places = kept N S.top (moved S); settings = S.settings })
 stays S N good keeps = record {
   table = keeps.table;
-  placed = kept-placed N S.top S.places;
+  placed = kept-placed N S.top (moved S);
   fanout = λ limit is. fanout-kept S.plain N S.top keeps limit (good.fanout limit is);
   grid = good.grid;
 }
@@ -71,7 +76,7 @@ set_fanout-good S max cell good p =
     let is : IsFanout S.plain given = record { buffer = not-false (is_buffer (module_of S.plain cell)) b.0; number = c.0 } in
     record {
       table = good.table;
-      placed = kept-placed S.plain S.top S.places;
+      placed = kept-placed S.plain S.top (moved S);
       fanout = λ limit same. let at : given ≡ limit = cc in subst (IsFanout S.plain) at is;
       grid = good.grid;
     }
@@ -81,12 +86,12 @@ set_grid-good S grid good p =
     let a = first-passes p in
     record {
       table = good.table;
-      placed = kept-placed S.plain S.top S.places;
+      placed = kept-placed S.plain S.top (moved S);
       fanout = good.fanout;
       grid = λ width same. let at : grid ≡ width = cc in subst (λ n. is_bad_grid n ≡ false) at a.0;
     }
 
-is_equal : (order : Ordering) → is_eq order ≡ true → order ≡ Equal
+pub is_equal : (order : Ordering) → is_eq order ≡ true → order ≡ Equal
 is_equal Less e = absurd (false≢true e)
 is_equal Equal e = refl
 is_equal Greater e = absurd (false≢true e)
@@ -103,26 +108,26 @@ pub place-good : (S : State) (path : List InstId) (placement : Placement) → Is
 place-good S path placement good p =
     let a = first-passes p in
     let b = first-passes a.1 in
-    let old : PlacesByPath = kept S.plain S.top S.places in
+    let old : PlacesByPath = kept S.plain S.top (moved S) in
     record {
       table = good.table;
       placed = λ q some.
           let is : get (insert old path placement) q ≡ cond (eq_by_cmp path_cmp q path) (Some placement) (get old q) = get-insert path_total old path placement q in
           one_of (eq_by_cmp path_cmp q path) (IsTrue (is_leaf_path S.plain S.top q)) placement (get old q)
           (λ at. rw (path_apart q path (is_equal (path_cmp q path) at)) (not-false (is_leaf_path S.plain S.top path) b.0))
-          (kept-placed S.plain S.top S.places q) (sym (ap (λ (o : Option Placement). is_some o) is) ∙ some);
+          (kept-placed S.plain S.top (moved S) q) (sym (ap (λ (o : Option Placement). is_some o) is) ∙ some);
       fanout = good.fanout;
       grid = good.grid;
     }
 
 pub unplace-good : (S : State) (path : List InstId) → IsGoodState S → IsGoodState (after S (Unplace path))
 unplace-good S path good =
-    let old : PlacesByPath = kept S.plain S.top S.places in
+    let old : PlacesByPath = kept S.plain S.top (moved S) in
     record {
       table = good.table;
       placed = λ q some.
           let is : get (remove old path) q ≡ cond (eq_by_cmp path_cmp q path) None (get old q) = get-remove path_total old path q in
-          kept-placed S.plain S.top S.places q (other_than (eq_by_cmp path_cmp q path) (get old q) (sym (ap (λ (o : Option Placement). is_some o) is) ∙ some));
+          kept-placed S.plain S.top (moved S) q (other_than (eq_by_cmp path_cmp q path) (get old q) (sym (ap (λ (o : Option Placement). is_some o) is) ∙ some));
       fanout = good.fanout;
       grid = good.grid;
     }

@@ -6,8 +6,8 @@ pub mod OrderLemmas
 pub mod CountLemmas
 pub mod UnfoldLemmas
 pub mod HeightLemmas
-pub mod DepthLemmas
 pub mod ApplyLemmas
+pub mod RoomLemmas
 pub mod PlacedLemmas
 pub mod FactsLemmas
 pub mod ReadLemmas
@@ -31,3 +31,4 @@ pub mod GoodPorts
 pub mod GoodMasters
 pub mod GoodCopies
 pub mod GoodLaw
+pub mod SurvivalLemmas

@@ -1,5 +1,5 @@
 -- After an edit of a sound table, modules and instances stand in rising order of their ids.
-use Rattle.std.proofs.Common.{subst, sym, ◌≡◌, ℕ, ◌<◌, ◌==◌, not, Bool, true, false, cond, List, [], ◌∷◌, ◌++◌, length, get_or, map, All, AllPairs, Option, Some, None, refl, ap, arith}
+use Rattle.std.proofs.Common.{◌≡◌, ℕ, ◌<◌, ◌==◌, not, Bool, true, false, cond, List, [], ◌∷◌, ◌++◌, length, get_or, map, All, AllPairs, Option, Some, None, refl, ap, arith}
 use Rattle.std.proofs.lemmas.List.{get_or-map, length-map}
 use Rattle.std.proofs.lemmas.List.Elements.{All-map, All-filter, All-push, All-weaker}
 use Rattle.std.proofs.lemmas.List.Kept.{AllPairs-filter}
@@ -142,9 +142,3 @@ pub rise_changed : (M : Plain) (id : ModId) (f : PModule → PModule) → ((m : 
 rise_changed M id f same rise =
     let g : PModule → PModule = λ m. cond (m.id.0 == id.0) (f m) m in
     rises-map module_number g (λ m. chosen module_number (m.id.0 == id.0) (f m) m (same m)) M.modules rise
-
--- a table that is the one after an edit of a sound table has its modules in order
-pub rise-after : (M : Plain) (e : Edit) (made : Plain) → IsSound M → made ≡ table_after M e → AllPairs (λ (a b : PModule). a.id.0 < b.id.0) made.modules
-rise-after M e made sound is =
-    let Rise : Plain → Type 0 = λ table. AllPairs (λ (a b : PModule). a.id.0 < b.id.0) table.modules in
-    subst Rise (sym is) (order-after M e sound).modules

@@ -1,5 +1,5 @@
 -- The effect of an edit: what refuses it, or the state after it and the change that is told of it. This project's own.
-use Rattle.std.specs.Prelude.{ℕ, true, false, List, [], Option, Some, None, option_to_list}
+use Rattle.std.specs.Prelude.{◌≡◌, ℕ, ◌<◌, true, false, List, [], ◌∷◌, Option, Some, None, option_and_then, option_to_list}
 use Rattle.std.specs.FinMap.{insert, remove}
 use Rattle.emh_base.specs.declared.plain.Conn.{Conn}
 use Rattle.emh_base.specs.declared.plain.Plain.{Plain}
@@ -18,6 +18,7 @@ use Rattle.edit_rules.specs.Modules.{create_module, create_module_rules, delete_
 use Rattle.edit_rules.specs.Nets.{create_net, create_net_rules, delete_net, delete_net_rules, create_port, create_port_rules, delete_port, delete_port_rules, rename_net, rename_net_rules}
 use Rattle.edit_rules.specs.Insts.{create_inst, create_inst_rules, delete_inst, delete_inst_rules, connect, connect_rules, disconnect, disconnect_rules, rename_inst, rename_inst_rules, with_master, resize_rules, uniquify, uniquify_rules}
 use Rattle.edit_rules.specs.Spots.{kept, place_rules, unplace_rules}
+use Rattle.edit_rules.specs.Carry.{carry, carried}
 use Rattle.edit_rules.specs.Settings.{set_fanout_rules, set_grid_rules}
 
 -- the rules of an edit, in the order in which they are looked at
@@ -79,12 +80,13 @@ settings_after settings (SetFanout max cell) = record settings { fanout = Some (
 settings_after settings (SetGrid grid) = record settings { grid = Some grid }
 settings_after settings _ = settings
 
--- the state after an edit: placements are kept where a block instance is still there, but for the one that is named
+-- the state after an edit: placements go where their paths are carried, and are kept where a block instance is then,
+-- but for the one that is named
 abbrev pub after : State → Edit → State
 after S e = record {
   plain = table_after S.plain e;
   top = S.top;
-  places = with_place e (kept (table_after S.plain e) S.top S.places);
+  places = with_place e (kept (table_after S.plain e) S.top (carried (carry S e) S.places));
   settings = settings_after S.settings e;
 }
 
@@ -104,6 +106,10 @@ made M (CreateInst m name master) = Some (next_inst_of (module_of M m))
 made M (Uniquify m inst name) = Some M.next_module
 made M _ = None
 
+-- there is an id left for what an edit makes
+abbrev pub HasRoom : Plain → Edit → Type 0
+HasRoom M e = (id : ℕ) → made M e ≡ Some id → id < 4294967295
+
 abbrev pub change : State → By → Edit → Change
 change S by e = record { edit = e; by = by; was = was S.plain e; made = made S.plain e }
 
@@ -118,3 +124,13 @@ applied S by e None = Done (after S e) (change S by e)
 -- an edit of a state, asked for by the user or an observer
 abbrev pub apply : State → By → Edit → Applied
 apply S by e = applied S by e (first_broken (checks S e))
+
+-- the state after edits in order, each asked for by someone; none where one of them is refused
+
+abbrev pub state_of : Applied → Option State
+state_of (Refused refusal) = None
+state_of (Done S told) = Some S
+
+abbrev pub done_in_order : State → List (By × Edit) → Option State
+done_in_order S [] = Some S
+done_in_order S (step ∷ steps) = option_and_then (λ T. done_in_order T steps) (state_of (apply S step.0 step.1))

@@ -16,7 +16,7 @@ use Rattle.emh_base.specs.declared.rule.Object.TheVariants.{Module, Net, Inst, P
 use Rattle.flatten_rules.specs.Lookup.{module_of, width_of}
 use Rattle.flatten_rules.specs.Domains.{is_leaf, ports_of}
 use Rattle.edit_rules.specs.Check.{Check, check}
-use Rattle.edit_rules.specs.Readers.{is_module, next_inst_of, is_at_end, is_name_in, is_module_name, is_net, is_port, is_inst, net_in, inst_in, master_id, master_of, users, port_place, conn_of, is_connected, same_ports}
+use Rattle.edit_rules.specs.Readers.{is_module, next_inst_of, lacks_room, is_name_in, is_module_name, is_net, is_port, is_inst, net_in, inst_in, master_id, master_of, users, port_place, conn_of, is_connected, same_ports}
 use Rattle.edit_rules.specs.Limits.{is_too_deep, has_too_many_occurrences, has_too_many_bits, leads_to}
 use Rattle.edit_rules.specs.Changes.{with_module, with_inst, with_last_module, with_conns}
 use Rattle.edit_rules.specs.Modules.{common}
@@ -47,7 +47,7 @@ create_inst_rules S m name master =
     ∷ check NameTaken NewName (is_name_in (module_of S.plain m) name)
     ∷ check Recursive (Module master) (leads_to S.plain master m)
     ∷ check TooDeep (Module master) (is_too_deep (create_inst S.plain m name master))
-    ∷ check TooManyObjects (Module m) (is_at_end (next_inst_of (module_of S.plain m)))
+    ∷ check TooManyObjects (Module m) (lacks_room (next_inst_of (module_of S.plain m)) 1)
     ∷ check TooManyOccurrences (Module master) (has_too_many_occurrences (create_inst S.plain m name master) S.top)
     ∷ check TooManyBits (Module master) (has_too_many_bits (create_inst S.plain m name master) S.top)
     ∷ []
@@ -162,5 +162,5 @@ uniquify_rules S m inst name =
     ∷ check IsCell (Module master) (is_leaf (module_of S.plain master))
     ∷ check NotShared (Module master) (users S.plain master == 1)
     ∷ check NameTaken NewName (is_module_name S.plain name)
-    ∷ check TooManyObjects NewName (is_at_end S.plain.next_module)
+    ∷ check TooManyObjects NewName (lacks_room S.plain.next_module 1)
     ∷ []

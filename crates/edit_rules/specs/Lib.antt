@@ -7,7 +7,9 @@ pub mod Nets
 pub mod Insts
 pub mod Spots
 pub mod Settings
+pub mod Carry
 pub mod Apply
+pub mod Survival
 pub mod Good
 pub mod Examples
 pub mod Judged

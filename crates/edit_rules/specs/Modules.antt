@@ -9,7 +9,7 @@ use Rattle.emh_base.specs.declared.rule.Object.TheVariants.{Module, NewName}
 use Rattle.flatten_rules.specs.Lookup.{module_of}
 use Rattle.flatten_rules.specs.Domains.{is_leaf}
 use Rattle.edit_rules.specs.Check.{Check, check}
-use Rattle.edit_rules.specs.Readers.{is_module, is_locked, is_module_name, is_at_end, users}
+use Rattle.edit_rules.specs.Readers.{is_module, is_locked, is_module_name, lacks_room, users}
 use Rattle.edit_rules.specs.Changes.{with_module, with_last_module}
 
 -- what is looked at first in each edit inside a module
@@ -25,7 +25,7 @@ common S m =
 abbrev pub create_module_rules : State → List ℕ → List Check
 create_module_rules S name =
     check NameTaken NewName (is_module_name S.plain name)
-    ∷ check TooManyObjects NewName (is_at_end S.plain.next_module)
+    ∷ check TooManyObjects NewName (lacks_room S.plain.next_module 1)
     ∷ []
 
 abbrev pub empty_module : ℕ → List ℕ → PModule

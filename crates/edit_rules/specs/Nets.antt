@@ -14,7 +14,7 @@ use Rattle.emh_base.specs.declared.rule.Rule.TheVariants.{NoSuchNet, NoSuchPort,
 use Rattle.emh_base.specs.declared.rule.Object.TheVariants.{Module, Net, Port, NewName}
 use Rattle.flatten_rules.specs.Lookup.{module_of}
 use Rattle.edit_rules.specs.Check.{Check, check}
-use Rattle.edit_rules.specs.Readers.{next_net_of, is_at_end, is_name_in, is_net, is_port, is_too_wide, port_place, is_port_used, is_net_used}
+use Rattle.edit_rules.specs.Readers.{next_net_of, lacks_room, is_name_in, is_net, is_port, is_too_wide, port_place, is_port_used, is_net_used}
 use Rattle.edit_rules.specs.Limits.{has_too_many_bits}
 use Rattle.edit_rules.specs.Changes.{with_module, at_instances, with_conns}
 use Rattle.edit_rules.specs.Modules.{common}
@@ -37,7 +37,7 @@ create_net_rules S m name range =
     common S m
     ++ check NameTaken NewName (is_name_in (module_of S.plain m) name)
     ∷ check RangeTooWide NewName (is_too_wide range)
-    ∷ check TooManyObjects (Module m) (is_at_end (next_net_of (module_of S.plain m)))
+    ∷ check TooManyObjects (Module m) (lacks_room (next_net_of (module_of S.plain m)) 1)
     ∷ check TooManyBits (Module m) (has_too_many_bits (create_net S.plain m name range) S.top)
     ∷ []
 
@@ -72,7 +72,7 @@ create_port_rules S m name dir range =
     common S m
     ++ check NameTaken NewName (is_name_in (module_of S.plain m) name)
     ∷ check RangeTooWide NewName (is_too_wide range)
-    ∷ check TooManyObjects (Module m) (is_at_end (next_net_of (module_of S.plain m)))
+    ∷ check TooManyObjects (Module m) (lacks_room (next_net_of (module_of S.plain m)) 1)
     ∷ check TooManyBits (Module m) (has_too_many_bits (create_port S.plain m name dir range) S.top)
     ∷ []
 

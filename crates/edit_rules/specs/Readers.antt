@@ -1,5 +1,5 @@
 -- What the rules look at in a module table. Where the module, net, port or instance isn't there, there is nothing to see.
-use Rattle.std.specs.Prelude.{ℕ, ◌==◌, Bool, true, false, ◌&&◌, ◌||◌, nat_lt, List, [], ◌∷◌, Option, Some, None, is_some, option_and_then, bytes_eq, position, slice_get, sum_by, count_by, length, zip}
+use Rattle.std.specs.Prelude.{ℕ, ◌+◌, ◌==◌, Bool, true, false, ◌&&◌, ◌||◌, nat_lt, List, [], ◌∷◌, Option, Some, None, is_some, option_and_then, bytes_eq, position, slice_get, sum_by, count_by, length, zip}
 use Rattle.std.specs.List.{list_any, list_all}
 use Rattle.emh_base.specs.declared.ids.ModId.{ModId}
 use Rattle.emh_base.specs.declared.ids.NetId.{NetId}
@@ -41,9 +41,9 @@ abbrev pub next_inst_of : Option PModule → ℕ
 next_inst_of None = 0
 next_inst_of (Some m) = m.next_inst
 
--- a counter has come to its end
-abbrev pub is_at_end : ℕ → Bool
-is_at_end counter = counter == 4294967295
+-- so many new objects need more ids than the counter has left: the last id is 4,294,967,294
+abbrev pub lacks_room : ℕ → ℕ → Bool
+lacks_room counter new = nat_lt 4294967295 (counter + new)
 
 -- names
 

@@ -11,6 +11,20 @@ use emh_base::{
     Conn, InstId, List, ModId, Name, NetId, NoMemory, PInst, PModule, PNet, PPort, TryCopy,
 };
 
+/// A module in place of another.
+#[derive(Drop)]
+pub struct Other {
+    pub module: PModule,
+}
+
+impl Rewrite<PModule> for Other {
+    ghost becomes = { λ other _. other.«module» };
+
+    fn rewrite(&self, _: &PModule) -> Result<PModule, NoMemory> {
+        self.module.copy()
+    }
+}
+
 /// A new name.
 #[derive(Drop)]
 pub struct Called {

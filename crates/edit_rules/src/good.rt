@@ -7,15 +7,16 @@ ghost use Rattle.flatten_rules.specs.Lookup.{module_of};
 ghost use Rattle.flatten_rules.specs.Design.{IsGood, IsInner};
 ghost use Rattle.flatten_rules.specs.Sound.{IsSound};
 ghost use Rattle.edit_rules.specs.Order.{InOrder};
-ghost use Rattle.edit_rules.specs.Readers.{is_bad_grid};
+ghost use Rattle.edit_rules.specs.Readers.{is_buffer, is_bad_grid};
 ghost use Rattle.edit_rules.specs.Spots.{is_leaf_path};
 ghost use Rattle.edit_rules.specs.Good.{IsFanout, IsGoodState};
 
-use crate::readers::{is_buffer, module_of};
+use crate::facts::Facts;
+use crate::judging::is_buffer;
 use crate::settings::{is_bad_fanout, is_bad_grid};
 use crate::spots::is_leaf_path;
-use emh_base::{Fanout, ModId, NoMemory, Path, Placement, Places, Plain, State};
-use flatten_rules::{is_sound, is_within};
+use emh_base::{ModId, NoMemory, Path, Placement, Places, Plain, State};
+use flatten_rules::{is_sound, is_within, module_of};
 use std::alloc::Global;
 
 /// Whether a state is good: its table is sound and, at a top that is there and no leaf, within the limits; what is
@@ -29,7 +30,7 @@ pub fn is_good_state(alloc: Global, state: &State) -> Result<bool, NoMemory>
     if !are_placed(&state.plain, state.top, &state.places)? {
         return Ok(false);
     }
-    if !is_good_fanout(&state.plain, state.settings.fanout) {
+    if !is_good_fanout(state) {
         return Ok(false);
     }
     Ok(is_good_grid(state.settings.grid))
@@ -49,6 +50,7 @@ fn is_good(alloc: Global, plain: &Plain, top: ModId) -> Result<bool, NoMemory>
 }
 
 fn is_inner(plain: &Plain, id: ModId) -> bool
+    requires { IsSound plain.now }
     ensures { IsTrue result ↔ IsInner (module_of plain.now id) }
 {
     match module_of(plain, id) {
@@ -76,12 +78,25 @@ fn are_leaf_paths(plain: &Plain, top: ModId, placed: &[(Path, Placement)]) -> bo
         .all(|(path, _)| is_leaf_path(plain, top, path))
 }
 
-fn is_good_fanout(plain: &Plain, fanout: Option<Fanout>) -> bool
-    ensures { IsTrue result ↔ ((limit : Fanout) → fanout ≡ Some limit → IsFanout plain.now limit) }
+fn is_good_fanout(state: &State) -> bool
+    requires { IsSound state.now.plain }
+    ensures { IsTrue result ↔ ((limit : Fanout) → state.now.settings.fanout ≡ Some limit → IsFanout state.now.plain limit) }
 {
-    match fanout {
+    match state.settings.fanout {
         None => true,
-        Some(limit) => is_buffer(plain, limit.cell) && !is_bad_fanout(limit.max),
+        Some(limit) => is_buffer_cell(state, limit.cell) && !is_bad_fanout(limit.max),
+    }
+}
+
+/// Whether a module is there and is a buffer.
+fn is_buffer_cell(state: &State, cell: ModId) -> bool
+    requires { IsSound state.now.plain }
+    ensures { result ≡ is_buffer (module_of state.now.plain cell) }
+{
+    if state.is_module(cell) {
+        is_buffer(state, cell)
+    } else {
+        false
     }
 }
 

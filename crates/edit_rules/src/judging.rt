@@ -21,6 +21,7 @@ use emh_base::Edit;
 use insts::{create_inst, delete_inst, rename_inst, resize, uniquify};
 use modules::{create_module, delete_module, lock, rename_module, set_fanout, unlock};
 use nets::{create_net, create_port, delete_net, delete_port, rename_net};
+pub use ports::is_buffer;
 use spots::{place, unplace};
 use std::alloc::Global;
 

@@ -1,5 +1,5 @@
 ghost use Rattle.edit_rules.specs.Examples.{LocksBeforeNames, SourcesBeforeWidths, EachInstanceGetsThePort};
-ghost use Rattle.edit_rules.specs.Law.{StaysGood};
+ghost use Rattle.edit_rules.specs.Law.{StaysGood, StaysGoodInOrder, SurvivorsStayPlaced, OnlySurvivorsArePlaced, SurvivorsStayPlacedInOrder};
 
 /// The definitions tried on edits of the worked example.
 pub fn worked_edits()
@@ -8,8 +8,17 @@ pub fn worked_edits()
     ensures ports { EachInstanceGetsThePort }
 {}
 
-/// The law of good states: an edit that no rule refuses leads from a good state to a good one. The contract is what this
-/// is for.
+/// The law of good states: an edit that no rule refuses leads from a good state to a good one, and so do edits in order.
+/// The contract is what this is for.
 pub fn each_edit_stays_good()
-    ensures { StaysGood }
+    ensures one { StaysGood }
+    ensures all { StaysGoodInOrder }
+{}
+
+/// The law of placements: what survives an edit, or edits in order, keeps its placement where none of them sets it or
+/// takes it out, and nothing else is placed. The contract is what this is for.
+pub fn survivors_stay_placed()
+    ensures one { SurvivorsStayPlaced }
+    ensures only { OnlySurvivorsArePlaced }
+    ensures all { SurvivorsStayPlacedInOrder }
 {}

@@ -4,7 +4,6 @@
 mod apply;
 mod changes;
 mod count;
-mod create;
 mod depth;
 mod facts;
 mod good;
@@ -21,10 +20,9 @@ mod rewrite;
 mod settings;
 mod spots;
 mod table;
-mod width;
 
 pub use apply::apply_plain;
 pub use facts::{Counters, Facts, Spot, Totals};
 pub use good::is_good_state;
 pub use judged::{Judged, Need, judge};
-pub use laws::{each_edit_stays_good, worked_edits};
+pub use laws::{each_edit_stays_good, survivors_stay_placed, worked_edits};

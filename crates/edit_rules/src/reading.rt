@@ -8,13 +8,13 @@ ghost use Rattle.flatten_rules.specs.Lookup.{module_of};
 ghost use Rattle.flatten_rules.specs.Design.{module_named};
 ghost use Rattle.flatten_rules.specs.Root.{bit_of};
 ghost use Rattle.flatten_rules.specs.Sound.{IsSound, IsSoundModule};
-ghost use Rattle.edit_rules.specs.Readers.{is_module, net_in, port_in, inst_in, users, conn_at, conn_of, master_of, port_place};
+ghost use Rattle.edit_rules.specs.Readers.{is_module, net_in, port_in, inst_in, users, conn_at, conn_of, master_of, port_place, is_port_used};
 ghost use Rattle.edit_rules.specs.Facts.{is_past, is_open_conn};
 
 use crate::count::below;
 use crate::facts::{Counters, Facts, Spot, Totals};
 use crate::limits::{NetBits, Occurrences, Of};
-use crate::readers::{is_name_in, is_net_used, is_port_used, place_of_port};
+use crate::readers::{is_name_in, is_net_used, is_place_used, place_of_port};
 use crate::spots::module_at;
 use emh_base::{
     Conn, Dir, InstId, List, ModId, Name, NetId, PInst, PModule, PNet, PPort, Path, Plain, Range,
@@ -55,7 +55,7 @@ fn port_in(plain: &Plain, id: ModId, port: NetId) -> Option<&PPort>
 }
 
 /// An instance in a module.
-fn inst_in(plain: &Plain, id: ModId, inst: InstId) -> Option<&PInst>
+pub fn inst_in(plain: &Plain, id: ModId, inst: InstId) -> Option<&PInst>
     requires { IsSound plain.now }
     ensures { option_copied result ≡ inst_in plain.now id inst }
 {
@@ -93,26 +93,45 @@ fn place_past<T: Numbered>(items: &[T], last: u32) -> usize
     items.partition_point(|item| item.number() <= last)
 }
 
-/// The place of a port among those of an instance's master.
-fn place_at(plain: &Plain, inst: &PInst, port: NetId) -> Option<usize>
+/// The master of an instance.
+pub fn master_of(plain: &Plain, id: ModId, inst: InstId) -> Option<&PModule>
     requires { IsSound plain.now }
-    ensures { result ≡ port_place (master_of plain.now (Some inst.now)) port }
-{
-    match module_of(plain, inst.master) {
-        None => None,
-        Some(master) => place_of_port(master, port),
-    }
-}
-
-/// The connection of an instance at a port of its master.
-fn conn_of(plain: &Plain, id: ModId, inst: InstId, port: NetId) -> Option<&Conn>
-    requires { IsSound plain.now }
-    ensures { option_copied result ≡ conn_of plain.now (inst_in plain.now id inst) port }
+    ensures { option_copied result ≡ master_of plain.now (inst_in plain.now id inst) }
 {
     match inst_in(plain, id, inst) {
         None => None,
-        Some(there) => conn_at(&there.conns, place_at(plain, there, port)),
+        Some(there) => module_of(plain, there.master),
     }
+}
+
+/// The place of a port among those of an instance's master.
+pub fn place_at_inst(plain: &Plain, id: ModId, inst: InstId, port: NetId) -> Option<usize>
+    requires { IsSound plain.now }
+    ensures { result ≡ port_place (master_of plain.now (inst_in plain.now id inst)) port }
+{
+    place_of_port(master_of(plain, id, inst), port)
+}
+
+/// The connection of an instance at a port of its master.
+pub fn conn_of(plain: &Plain, id: ModId, inst: InstId, port: NetId) -> Option<&Conn>
+    requires { IsSound plain.now }
+    ensures { option_copied result ≡ conn_of plain.now (inst_in plain.now id inst) port }
+{
+    let place = place_at_inst(plain, id, inst, port);
+    match inst_in(plain, id, inst) {
+        None => None,
+        Some(there) => conn_at(&there.conns, place),
+    }
+}
+
+/// Whether an instance of a module, in whichever module, is connected at a port.
+fn is_port_used(plain: &Plain, id: ModId, port: NetId) -> bool
+    requires { IsSound plain.now }
+    ensures { result ≡ is_port_used plain.now id port }
+{
+    let place = place_of_port(module_of(plain, id), port);
+    let mut modules = plain.modules.as_slice().iter();
+    modules.any(|holder| is_place_used(holder, id, place))
 }
 
 fn conn_at(conns: &List<Conn>, place: Option<usize>) -> Option<&Conn>
@@ -224,7 +243,7 @@ impl Facts for State {
     }
 
     fn is_named_in(&self, id: ModId, name: &[u8]) -> bool {
-        is_name_in(&self.plain, id, name)
+        is_name_in(holder_of(&self.plain, id), name)
     }
 
     fn net_named(&self, id: ModId, name: &[u8]) -> Option<NetId> {
@@ -293,7 +312,7 @@ impl Facts for State {
     }
 
     fn net_used(&self, id: ModId, net: NetId) -> bool {
-        is_net_used(&self.plain, id, net)
+        is_net_used(holder_of(&self.plain, id), net)
     }
 
     fn port_used(&self, id: ModId, port: NetId) -> bool {

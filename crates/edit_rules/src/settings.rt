@@ -1,21 +1,10 @@
 ghost use Rattle.edit_rules.specs.Judged.{Looks};
 ghost use Rattle.edit_rules.specs.Readers.{is_bad_fanout, is_bad_grid};
-ghost use Rattle.edit_rules.specs.Settings.{set_fanout_rules, set_grid_rules};
+ghost use Rattle.edit_rules.specs.Settings.{set_grid_rules};
 ghost use Rattle.std.specs.Prelude.{◌≡◌};
 
 use crate::judged::{Judged, keep};
-use crate::readers::{is_buffer, is_module};
-use emh_base::{ModId, Object, Rule, State};
-
-/// Looks at the rules of a SetFanout.
-pub fn set_fanout(state: &State, max: u32, cell: ModId) -> Result<(), Judged>
-    ensures { Looks (set_fanout_rules state.now max cell) result }
-{
-    let object = Object::Module(cell);
-    keep(Rule::NoSuchModule, object, !is_module(&state.plain, cell))?;
-    keep(Rule::BadBuffer, object, !is_buffer(&state.plain, cell))?;
-    keep(Rule::BadNumber, Object::Number, is_bad_fanout(max))
-}
+use emh_base::{Object, Rule};
 
 /// Looks at the rules of a SetGrid.
 pub fn set_grid(grid: u32) -> Result<(), Judged>

@@ -5,14 +5,9 @@ ghost use Rattle.emh_base.specs.declared.plain.PInst.{PInst};
 ghost use Rattle.edit_rules.specs.Order.{InOrder};
 ghost use Rattle.flatten_rules.specs.Lookup.{inst_of};
 ghost use Rattle.edit_rules.specs.Readers.{master_of};
-ghost use Rattle.edit_rules.specs.Judged.{Looks};
-ghost use Rattle.edit_rules.specs.Spots.{module_at, is_leaf_path, kept, at_leaf, may_not_move, is_fixed, place_rules, unplace_rules};
+ghost use Rattle.edit_rules.specs.Spots.{module_at, is_leaf_path, kept, may_not_move, is_fixed};
 
-use crate::judged::{Judged, keep};
-use emh_base::{
-    InstId, ModId, NoMemory, Object, PModule, Path, Placement, Places, Plain, Rule, State, Status,
-    TryCopy,
-};
+use emh_base::{InstId, ModId, NoMemory, PModule, Path, Placement, Places, Plain, Status, TryCopy};
 use flatten_rules::{find, module_of};
 
 /// The module at a path of the unfolding.
@@ -66,43 +61,6 @@ pub fn kept(plain: &Plain, top: ModId, places: &Places) -> Result<Places, NoMemo
         }
     }
     Ok(made)
-}
-
-/// Looks at the rules of a Place.
-pub fn place(state: &State, path: &Path) -> Result<(), Judged>
-    requires { InOrder state.now.plain }
-    ensures { Looks (place_rules state.now path.now) result }
-{
-    at_leaf(state, path)?;
-    keep(
-        Rule::IsFixed,
-        Object::Spot,
-        is_fixed(state.places.get(path)),
-    )
-}
-
-/// Looks at the rules of an Unplace.
-pub fn unplace(state: &State, path: &Path) -> Result<(), Judged>
-    requires { InOrder state.now.plain }
-    ensures { Looks (unplace_rules state.now path.now) result }
-{
-    at_leaf(state, path)?;
-    keep(
-        Rule::NotPlaced,
-        Object::Spot,
-        state.places.get(path).is_none(),
-    )
-}
-
-/// Looks at what is looked at where an edit names a block instance by its path.
-fn at_leaf(state: &State, path: &Path) -> Result<(), Judged>
-    requires { InOrder state.now.plain }
-    ensures { Looks (at_leaf state.now path.now) result }
-{
-    match module_at(&state.plain, state.top, path) {
-        None => keep(Rule::NoSuchOccurrence, Object::Spot, true),
-        Some(holder) => keep(Rule::NotLeaf, Object::Spot, !holder.leaf),
-    }
 }
 
 pub fn is_fixed(placement: Option<Placement>) -> bool

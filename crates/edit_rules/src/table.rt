@@ -1,4 +1,4 @@
-ghost use Rattle.std.specs.Prelude.{◌≡◌, ◌<◌, IfOk};
+ghost use Rattle.std.specs.Prelude.{◌≡◌, ◌+◌, ◌<◌, IfOk};
 ghost use Rattle.edit_rules.specs.Changes.{with_module, with_inst, with_last_module, at_instances};
 
 use crate::changes::{Insts, OfMaster};
@@ -30,8 +30,16 @@ pub fn with_last_module(plain: &Plain, last: PModule) -> Result<Plain, NoMemory>
 {
     Ok(Plain {
         modules: with_last(plain.modules.alloc(), plain.modules.as_slice(), last)?,
-        next_module: plain.next_module + 1,
+        next_module: next_id(plain.next_module),
     })
+}
+
+/// The number after a counter's.
+pub fn next_id(counter: u32) -> u32
+    requires { counter < 4294967295 }
+    ensures { result ≡ counter + 1 }
+{
+    counter + 1
 }
 
 /// The table with each instance of a module changed, wherever it stands.

@@ -12,6 +12,7 @@ use super::grown::limits_with;
 use super::ports::same_ports;
 use crate::facts::Facts;
 use crate::judged::{Judged, keep};
+use crate::readers::lacks_room;
 use emh_base::{InstId, ModId, Name, Object, Rule};
 use std::alloc::Global;
 
@@ -105,7 +106,7 @@ pub fn uniquify<F: Facts>(facts: &F, id: ModId, inst: InstId, name: &Name) -> Re
     keep(
         Rule::TooManyObjects,
         Object::NewName,
-        facts.next_module() == u32::MAX,
+        lacks_room(facts.next_module(), 1),
     )
 }
 
@@ -134,7 +135,7 @@ pub fn create_inst<F: Facts>(
     keep(
         Rule::TooManyObjects,
         Object::Module(id),
-        facts.counters(id).next_inst == u32::MAX,
+        lacks_room(facts.counters(id).next_inst, 1),
     )?;
     keep(Rule::TooManyOccurrences, object, above.too_many_occurrences)?;
     keep(Rule::TooManyBits, object, above.too_many_bits)

@@ -9,6 +9,7 @@ use super::common::{common, is_module_name};
 use super::ports::is_buffer;
 use crate::facts::Facts;
 use crate::judged::{Judged, keep};
+use crate::readers::lacks_room;
 use crate::settings::is_bad_fanout;
 use emh_base::{ModId, Name, Object, Rule};
 
@@ -25,7 +26,7 @@ pub fn create_module<F: Facts>(facts: &F, name: &Name) -> Result<(), Judged>
     keep(
         Rule::TooManyObjects,
         Object::NewName,
-        facts.next_module() == u32::MAX,
+        lacks_room(facts.next_module(), 1),
     )
 }
 

@@ -12,7 +12,7 @@ ghost use Rattle.edit_rules.specs.Nets.{create_net, create_net_rules, create_por
 use super::common::{common, is_net, is_port};
 use crate::facts::Facts;
 use crate::judged::{Judged, keep};
-use crate::readers::is_too_wide;
+use crate::readers::{is_too_wide, lacks_room};
 use emh_base::{Dir, ModId, Name, NetId, Object, Range, Rule};
 
 /// Looks at the rules of a DeleteNet.
@@ -77,7 +77,7 @@ pub fn create_net<F: Facts>(
     keep(
         Rule::TooManyObjects,
         Object::Module(id),
-        facts.counters(id).next_net == u32::MAX,
+        lacks_room(facts.counters(id).next_net, 1),
     )?;
     keep(
         Rule::TooManyBits,
@@ -107,7 +107,7 @@ pub fn create_port<F: Facts>(
     keep(
         Rule::TooManyObjects,
         Object::Module(id),
-        facts.counters(id).next_net == u32::MAX,
+        lacks_room(facts.counters(id).next_net, 1),
     )?;
     keep(
         Rule::TooManyBits,

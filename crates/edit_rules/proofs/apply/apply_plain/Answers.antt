@@ -3,4 +3,4 @@ use Rattle.edit_rules.proofs.GoodLaw.{answers-good}
 use Rattle.edit_rules.proofs.apply.apply_plain.Goals as goal
 
 pub returns-clause-good : goal.returns-clause-good
-returns-clause-good c = answers-good _ _ User c.args.edit.now _ c.requires c.apply_checked.ensures
+returns-clause-good c = answers-good _ _ User c.args.edit.now _ c.requires c.apply_judged.ensures

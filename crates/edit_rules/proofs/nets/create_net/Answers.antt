@@ -1,7 +1,23 @@
-use Rattle.emh_base.specs.declared.edit.Edit.TheVariants.{CreateNet}
-use Rattle.edit_rules.proofs.OrderLemmas.{rise-after}
+use Rattle.std.proofs.Common.{◌≡◌, IfOk, subst, sym, ap, ◌∙◌}
+use Rattle.std.specs.Option.{option_copied}
+use Rattle.emh_base.specs.declared.plain.Plain.{Plain}
+use Rattle.edit_rules.specs.Nets.{with_net}
+use Rattle.edit_rules.specs.Changes.{with_module}
+use Rattle.edit_rules.proofs.ChangeLemmas.{absent_changed, found_changed}
 use Rattle.edit_rules.proofs.nets.create_net.Goals as goal
 
-pub has_too_many_bits-requires : goal.has_too_many_bits-requires
-has_too_many_bits-requires c =
-    rise-after c.args.state.now.plain (CreateNet c.args.id c.args.name.now c.args.range) c.in_ok-made.made c.requires c.in_ok-made.ensures
+pub returns-in-None : goal.returns-in-None
+returns-in-None c =
+    let M = c.args.plain.now in
+    let Is : Plain → Type 0 = λ table. IfOk c.copy.result (λ made. made ≡ table) in
+    subst Is (absent_changed (with_net c.args.name.now c.args.range) M c.args.id (ap option_copied (sym c.in-None.is) ∙ c.module_of.ensures)) c.copy.ensures
+
+pub returns-in_ok-module-in-Some : goal.returns-in_ok-module-in-Some
+returns-in_ok-module-in-Some c =
+    let M = c.args.plain.now in
+    let Is : Plain → Type 0 = λ table. IfOk c.with_module.result (λ made. made ≡ table) in
+    let changed : c.in_ok-module-in-Some.«module» ≡ with_net c.args.name.now c.args.range c.in-Some.holder.now = c.in_ok-module-in-Some.ensures in
+    subst Is
+    (ap (λ m. with_module M c.args.id (λ _. m)) changed
+    ∙ found_changed (with_net c.args.name.now c.args.range) M c.args.id c.in-Some.holder.now c.requires.rise (ap option_copied (sym c.in-Some.is) ∙ c.module_of.ensures))
+    c.with_module.ensures

@@ -1,23 +1,23 @@
 use Rattle.std.proofs.Common.{◌≡◌, IfOk, subst, sym, ap, ◌∙◌}
 use Rattle.std.specs.Option.{option_copied}
 use Rattle.emh_base.specs.declared.plain.Plain.{Plain}
-use Rattle.edit_rules.specs.Nets.{with_net}
+use Rattle.edit_rules.specs.Nets.{with_port}
 use Rattle.edit_rules.specs.Changes.{with_module}
 use Rattle.edit_rules.proofs.ChangeLemmas.{absent_changed, found_changed}
-use Rattle.edit_rules.proofs.create.create_net.Goals as goal
+use Rattle.edit_rules.proofs.nets.with_port_inside.Goals as goal
 
 pub returns-in-None : goal.returns-in-None
 returns-in-None c =
     let M = c.args.plain.now in
     let Is : Plain → Type 0 = λ table. IfOk c.copy.result (λ made. made ≡ table) in
-    subst Is (absent_changed (with_net c.args.name.now c.args.range) M c.args.id (ap option_copied (sym c.in-None.is) ∙ c.module_of.ensures)) c.copy.ensures
+    subst Is (absent_changed (with_port c.args.name.now c.args.dir c.args.range) M c.args.id (ap option_copied (sym c.in-None.is) ∙ c.module_of.ensures)) c.copy.ensures
 
 pub returns-in_ok-module-in-Some : goal.returns-in_ok-module-in-Some
 returns-in_ok-module-in-Some c =
     let M = c.args.plain.now in
     let Is : Plain → Type 0 = λ table. IfOk c.with_module.result (λ made. made ≡ table) in
-    let changed : c.in_ok-module-in-Some.«module» ≡ with_net c.args.name.now c.args.range c.in-Some.holder.now = c.in_ok-module-in-Some.ensures in
+    let changed : c.in_ok-module-in-Some.«module» ≡ with_port c.args.name.now c.args.dir c.args.range c.in-Some.holder.now = c.in_ok-module-in-Some.ensures in
     subst Is
     (ap (λ m. with_module M c.args.id (λ _. m)) changed
-    ∙ found_changed (with_net c.args.name.now c.args.range) M c.args.id c.in-Some.holder.now c.requires.rise (ap option_copied (sym c.in-Some.is) ∙ c.module_of.ensures))
+    ∙ found_changed (with_port c.args.name.now c.args.dir c.args.range) M c.args.id c.in-Some.holder.now c.requires.rise (ap option_copied (sym c.in-Some.is) ∙ c.module_of.ensures))
     c.with_module.ensures

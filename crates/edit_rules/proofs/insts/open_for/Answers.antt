@@ -5,7 +5,7 @@ use Rattle.emh_base.specs.declared.plain.Dir.TheVariants.{Input}
 use Rattle.emh_base.specs.declared.plain.PPort.{PPort}
 use Rattle.emh_base.specs.declared.plain.Conn.{Conn}
 use Rattle.emh_base.specs.declared.plain.Conn.TheVariants.{Open}
-use Rattle.edit_rules.proofs.create.open_for.Goals as goal
+use Rattle.edit_rules.proofs.insts.open_for.Goals as goal
 
 pub loop-port-preserved : goal.loop-port-preserved
 loop-port-preserved c =

@@ -1,7 +1,0 @@
-use Rattle.emh_base.specs.declared.edit.Edit.TheVariants.{CreatePort}
-use Rattle.edit_rules.proofs.OrderLemmas.{rise-after}
-use Rattle.edit_rules.proofs.nets.create_port.Goals as goal
-
-pub has_too_many_bits-requires : goal.has_too_many_bits-requires
-has_too_many_bits-requires c =
-    rise-after c.args.state.now.plain (CreatePort c.args.id c.args.name.now c.args.dir c.args.range) c.in_ok-made.made c.requires c.in_ok-made.ensures
