@@ -1,0 +1,4 @@
+pub mod MapLemmas
+pub mod StepLemmas
+pub mod TimelineLemmas
+pub mod JoinedLemmas

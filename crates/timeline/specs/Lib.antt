@@ -1,0 +1,5 @@
+pub mod Timeline
+pub mod Maps
+pub mod Steps
+pub mod History
+pub mod Joined
