@@ -3,7 +3,6 @@ pub mod Pins
 pub mod Lines
 pub mod Texts
 pub mod Script
-pub mod Read
 pub mod Refusal
 pub mod Load
 pub mod Play

@@ -13,8 +13,8 @@ use Rattle.vlog_elab.specs.declared.fault.ElabKind.TheVariants.{NameTaken, Unkno
 use Rattle.vlog_elab.specs.declared.fault.ElabFault.{ElabFault}
 use Rattle.vlog_elab.specs.declared.fault.ElabFault.TheVariants.{Fault}
 use Rattle.vlog_elab.specs.declared.fault.ElabFault.TheVariants as elab
-use Rattle.emh_shell.specs.declared.fault.ReadFault.{ReadFault}
-use Rattle.emh_shell.specs.declared.fault.ReadFault.TheVariants.{Lex, Parse, Elab}
+use Rattle.vlog_elab.specs.declared.reads.ReadFault.{ReadFault}
+use Rattle.vlog_elab.specs.declared.reads.ReadFault.TheVariants.{Lex, Parse, Elab}
 
 abbrev pub refused_line : ℕ → List ℕ → List ℕ
 refused_line line reason = codes "refused " ++ (decimal line ++ (codes " " ++ (reason ++ codes "\n")))

@@ -2,9 +2,6 @@ ghost use Rattle.std.specs.Prelude.{◌≡◌};
 
 use emh_base::NoMemory;
 use thiserror::Error;
-use vlog_elab::ElabFault;
-use vlog_lex::LexFault;
-use vlog_read::ParseFault;
 
 /// The most lines that a script may have. This project's own limit.
 pub const LINE_LIMIT: usize = 1_000_000;
@@ -26,45 +23,6 @@ impl From<NoMemory> for ScriptFault {
 
     fn from(_: NoMemory) -> ScriptFault {
         ScriptFault::NoMemory
-    }
-}
-
-/// Why the bytes of a file have no table: the fault of their tokens, of the tree that these spell, or of the table that
-/// the tree gives.
-#[derive(Debug, Drop)]
-pub enum ReadFault {
-    Lex(LexFault),
-    Parse(ParseFault),
-    Elab(ElabFault),
-}
-
-impl From<LexFault> for ReadFault {
-    ghost use Rattle.emh_shell.specs.declared.fault.ReadFault.TheVariants.{Lex};
-
-    ghost from_gives = { λ fault it. it ≡ Lex fault };
-
-    fn from(fault: LexFault) -> ReadFault {
-        ReadFault::Lex(fault)
-    }
-}
-
-impl From<ParseFault> for ReadFault {
-    ghost use Rattle.emh_shell.specs.declared.fault.ReadFault.TheVariants.{Parse};
-
-    ghost from_gives = { λ fault it. it ≡ Parse fault };
-
-    fn from(fault: ParseFault) -> ReadFault {
-        ReadFault::Parse(fault)
-    }
-}
-
-impl From<ElabFault> for ReadFault {
-    ghost use Rattle.emh_shell.specs.declared.fault.ReadFault.TheVariants.{Elab};
-
-    ghost from_gives = { λ fault it. it ≡ Elab fault };
-
-    fn from(fault: ElabFault) -> ReadFault {
-        ReadFault::Elab(fault)
     }
 }
 

@@ -9,7 +9,6 @@ mod load;
 mod pins;
 mod play;
 mod print;
-mod read;
 mod reply;
 mod root_text;
 mod script;
@@ -19,7 +18,7 @@ mod way;
 
 pub use command::Command;
 pub use design::Design;
-pub use fault::{ReadFault, ScriptFault};
+pub use fault::ScriptFault;
 pub use laws::{each_session_once, two_level_pins};
 pub use play::run;
 pub use reply::LoadReply;

@@ -7,13 +7,11 @@ ghost use Rattle.flatten_rules.specs.Design.{Opens, module_named};
 ghost use Rattle.emh_shell.specs.Load.{Loads, inner_id};
 
 use crate::design::Design;
-use crate::fault::ReadFault;
-use crate::read::read_netlist;
 use crate::reply::LoadReply;
-use emh_base::{ModId, Name, NoMemory, PModule, Plain};
+use emh_base::{List, ModId, Name, NoMemory, PModule, Plain};
 use flatten_rules::is_within;
 use std::alloc::Global;
-use vlog_elab::ElabFault;
+use vlog_elab::{ElabFault, ReadFault, read_netlist};
 use vlog_lex::LexFault;
 use vlog_read::ParseFault;
 
@@ -22,7 +20,11 @@ pub fn open_file(alloc: Global, bytes: &[u8], top: &Name) -> Result<LoadReply, N
     requires { length bytes.now ≤ FILE_LIMIT }
     ensures { IfOk result (Loads bytes.now top.now) }
 {
-    match read_netlist(alloc, bytes) {
+    let none = Plain {
+        modules: List::new(alloc),
+        next_module: 0,
+    };
+    match read_netlist(alloc, &none, bytes, false) {
         Ok(plain) => match open_design(alloc, plain, top)? {
             Some(design) => Ok(LoadReply::Opened(design)),
             None => Ok(LoadReply::NotBuilt),

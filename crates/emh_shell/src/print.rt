@@ -2,10 +2,10 @@ ghost use Rattle.std.specs.Prelude.{◌≡◌, ◌++◌, IfOk, OnOk};
 ghost use Rattle.emh_shell.specs.Play.{ok_line, usage_line, fault_line};
 ghost use Rattle.emh_shell.specs.Refusal.{refused_line, about_word, about_place, about_text, lex_text, parse_text, elab_rule, elab_text, read_text};
 
-use crate::fault::{ReadFault, ScriptFault};
+use crate::fault::ScriptFault;
 use emh_base::{List, NoMemory, push_number, push_spelled};
 use std::alloc::Global;
-use vlog_elab::{ElabFault, ElabKind};
+use vlog_elab::{ElabFault, ElabKind, ReadFault};
 use vlog_lex::LexFault;
 use vlog_read::ParseFault;
 

@@ -1,5 +1,5 @@
 use crate::design::Design;
-use crate::fault::ReadFault;
+use vlog_elab::ReadFault;
 
 /// What `load` answers to a file that could be fetched or is too long.
 #[derive(Debug, Drop)]

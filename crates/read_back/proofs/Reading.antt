@@ -9,7 +9,7 @@ use Rattle.vlog_elab.specs.Elaboration.{Elaborates}
 use Rattle.vlog_elab.specs.Reads.{Reads}
 use Rattle.vlog_elab.proofs.Staying.{stays_sound}
 use Rattle.vlog_elab.proofs.BareTrees.{places_do_not_matter}
-use Rattle.vlog_elab.proofs.OneReading.{one-table}
+use Rattle.vlog_elab.proofs.OneReading.{one-table, no-fault}
 use Rattle.vlog_write.specs.TreeOf.{tree_of}
 use Rattle.vlog_write.specs.Written.{written}
 use Rattle.vlog_write.specs.Law.{IsTextOf, EachTableIsSpelled}
@@ -28,6 +28,7 @@ each-reads-back spelled M sound low named =
       made = back.made;
       reads = reads;
       only = λ plain other. one-table no_modules false (written M) plain back.made other reads;
+      no_fault = λ fault has. no-fault no_modules false (written M) back.made fault reads has;
       sound = made_sound;
       same = back.same;
       flat = λ top other m n found found_made names.

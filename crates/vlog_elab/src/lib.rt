@@ -14,6 +14,7 @@ mod names;
 mod nets;
 mod places;
 mod ports;
+mod reads;
 mod rows;
 mod said;
 mod same;
@@ -23,4 +24,5 @@ mod table;
 
 pub use elaborate::elab;
 pub use fault::{ElabFault, ElabKind};
-pub use law::one_elaboration;
+pub use law::{one_elaboration, one_reading};
+pub use reads::{ReadFault, read_netlist};
