@@ -4,3 +4,15 @@
 
 #[cfg(test)]
 mod base;
+#[cfg(test)]
+mod outside;
+#[cfg(test)]
+mod scripts;
+#[cfg(test)]
+mod tables;
+#[cfg(test)]
+mod tokens;
+#[cfg(test)]
+mod trees;
+#[cfg(test)]
+mod words;

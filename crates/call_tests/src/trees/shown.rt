@@ -1,9 +1,9 @@
 //! A tree or a fault as a line of text: a place stands behind an `@`.
-use crate::{At, Decl, Header, Item, ParseFault, Part, TConn, TInst, TModule, Tree, parse};
 use emh_base::{Dir, List, NoMemory, Range, push_number};
 use std::alloc::Global;
 use std::test::Fail;
 use vlog_lex::{FILE_LIMIT, Tokens, tokens};
+use vlog_read::{At, Decl, Header, Item, ParseFault, Part, TConn, TInst, TModule, Tree, parse};
 
 /// What is read from bytes that have tokens.
 pub fn shown(alloc: Global, bytes: &[u8]) -> Result<List<u8>, Fail> {

@@ -1,6 +1,7 @@
-use super::{Words, reserved_words};
+//! Word tables.
+use word_table::{Words, reserved_words};
 
-const WRITTEN: &[&[u8]] = crate::words![b"" b"a" b"ab" b"b"];
+const WRITTEN: &[&[u8]] = word_table::words![b"" b"a" b"ab" b"b"];
 
 #[test]
 fn finds_each_word_of_a_table_and_no_other(rt: HostRuntime) {
