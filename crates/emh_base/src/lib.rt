@@ -36,6 +36,3 @@ pub use spelling::{SpellFault, unspell};
 pub use state::{Fanout, PinRef, RootKey, Settings, State};
 pub use text::{push_index, push_number, push_spelled};
 pub use try_copy::TryCopy;
-
-#[cfg(test)]
-mod tests;

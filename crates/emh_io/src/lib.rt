@@ -11,8 +11,6 @@ mod shelf;
 mod sink;
 mod sure_shelf;
 mod sure_sink;
-#[cfg(test)]
-mod tests;
 
 pub use file_shelf::FileShelf;
 pub use held::{Held, are_distinct};

@@ -19,6 +19,3 @@ pub use token::{LexFault, Token, TokenKind, Tokens};
 
 /// The most bytes that a netlist may have.
 pub const FILE_LIMIT: usize = 67_108_864;
-
-#[cfg(test)]
-mod tests;

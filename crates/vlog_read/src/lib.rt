@@ -19,6 +19,3 @@ pub use fault::ParseFault;
 pub use law::one_sentence;
 pub use parser::parse;
 pub use tree::{At, Decl, Header, Item, Part, Span, TConn, TInst, TModule, Tree};
-
-#[cfg(test)]
-mod tests;

@@ -6,6 +6,3 @@ mod table;
 
 pub use reserved::reserved_words;
 pub use table::Words;
-
-#[cfg(test)]
-mod tests;

@@ -1,0 +1,42 @@
+//! Word tables.
+use word_table::{Words, reserved_words};
+
+const WRITTEN: &[&[u8]] = word_table::words![b"" b"a" b"ab" b"b"];
+
+#[test]
+fn finds_each_word_of_a_table_and_no_other(rt: HostRuntime) {
+    let table: Words<4> = Words::new(WRITTEN);
+    let cases: [(&[u8], Option<u16>); 8] = [
+        (b"", Some(0)),
+        (b"a", Some(1)),
+        (b"ab", Some(2)),
+        (b"b", Some(3)),
+        (b"aa", None),
+        (b"abc", None),
+        (b"A", None),
+        (b"c", None),
+    ];
+    for (word, row) in cases {
+        assert_eq!(rt; table.find(word), row);
+    }
+    assert_eq!(rt; table.at(2), b"ab".as_slice());
+}
+
+#[test]
+fn the_reserved_words_are_found_by_row(rt: HostRuntime) {
+    let table = reserved_words();
+    let cases: [(&[u8], Option<u16>); 9] = [
+        (b"always", Some(0)),
+        (b"and", Some(1)),
+        (b"endmodule", Some(26)),
+        (b"module", Some(57)),
+        (b"wire", Some(120)),
+        (b"xor", Some(123)),
+        (b"modul", None),
+        (b"Module", None),
+        (b"cell2", None),
+    ];
+    for (word, row) in cases {
+        assert_eq!(rt; table.find(word), row);
+    }
+}

@@ -1,0 +1,77 @@
+//! A case file, played from its first section to its last.
+use crate::case::Case;
+use crate::fault::CaseFault;
+use crate::section::Sections;
+use crate::tally::Tally;
+use crate::trying::try_case;
+use crate::verdict::Verdict;
+use emh_io::are_distinct;
+use std::alloc::Global;
+use std::io;
+use std::io::ErrorKind;
+use std::rt::Runtime;
+
+/// Plays the cases of a text, prints a line for each that differs, and counts them.
+pub fn play_cases<R: Runtime + AllocGlobal>(
+    rt: &R,
+    path: &str,
+    text: &[u8],
+    tally: &mut Tally,
+) -> io::Result<()> {
+    let mut sections = Sections::new(text);
+    let mut case = Case::new(rt.alloc());
+    while let Some(section) = sections.next() {
+        match case.take(section) {
+            Ok(None) => {}
+            Ok(Some(status)) => {
+                let verdict = play_case(rt.alloc(), &case, status);
+                tell(rt, path, section.line, &case, verdict, tally)?;
+                case.go_on();
+            }
+            Err(fault) => return tell(rt, path, section.line, &case, Err(fault), tally),
+        }
+    }
+    Ok(())
+}
+
+fn play_case(alloc: Global, case: &Case<'_>, status: u8) -> Result<Verdict, CaseFault> {
+    let files = case.held()?;
+    if !are_distinct(files.as_slice()) {
+        return Err(CaseFault::NoSection);
+    }
+    let words = case.words()?;
+    let faults = case.faults()?;
+    Ok(try_case(alloc, files, words.as_slice(), faults, case.prints, status))
+}
+
+/// Counts a case, and prints where it differs. The place is a line of the case file.
+fn tell<R: Runtime + AllocGlobal>(
+    rt: &R,
+    path: &str,
+    line: u64,
+    case: &Case<'_>,
+    verdict: Result<Verdict, CaseFault>,
+    tally: &mut Tally,
+) -> io::Result<()> {
+    match verdict {
+        Ok(Verdict::Passed) => {
+            tally.add_passed();
+            return Ok(());
+        }
+        Ok(Verdict::OtherText { lines, status }) => {
+            let line = case.prints_line.saturating_add(lines as u64);
+            println!(rt;
+                "{path}:{line}: from here on something else is printed; it ends with {status}"
+            )?;
+        }
+        Ok(Verdict::OtherStatus { status }) => {
+            println!(rt; "{path}:{line}: it ends with {status}")?;
+        }
+        Err(CaseFault::NoSection) => {
+            println!(rt; "{path}:{line}: no section begins so, or it has a mark that there isn't")?;
+        }
+        Err(CaseFault::NoMemory) => return Err(io::Error::from(ErrorKind::OutOfMemory)),
+    }
+    tally.add_differing();
+    Ok(())
+}

@@ -1,0 +1,6 @@
+//! Designs and texts that several crates of tests share, as constants, and what makes values of them.
+#![tactic(auto)]
+
+pub mod designs;
+pub mod modules;
+pub mod texts;

@@ -1,6 +1,0 @@
-//! Tests of what is computed from netlists in Verilog. They stand apart from the crates that they test, and call what
-//! these offer to all, since a crate's own tests prove the crate a second time.
-#![tactic(auto)]
-
-#[cfg(test)]
-mod elaboration;
