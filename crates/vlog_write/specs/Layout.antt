@@ -39,7 +39,8 @@ names ns = with_commas (map name ns)
 abbrev pub range : Option Span → List Word
 range None = []
 range (Some s) =
-    Mark left_bracket ∷ Number s.range.left ∷ Mark colon ∷ Number s.range.right ∷ Mark right_bracket ∷ Space ∷ []
+    Mark left_bracket ∷ Number s.range.left ∷ Mark colon ∷ Number s.range.right ∷ Mark right_bracket
+    ∷ Space ∷ []
 
 -- a direction, `wire` or both, each with a space after it
 abbrev pub declares : Option Dir → Bool → List Word
@@ -52,7 +53,8 @@ abbrev pub part : Part → List Word
 part (Name n) = word.Name n.name ∷ []
 part (Bit n index) = word.Name n.name ∷ Mark left_bracket ∷ Number index ∷ Mark right_bracket ∷ []
 part (Bits n r) =
-    word.Name n.name ∷ Mark left_bracket ∷ Number r.left ∷ Mark colon ∷ Number r.right ∷ Mark right_bracket ∷ []
+    word.Name n.name ∷ Mark left_bracket ∷ Number r.left ∷ Mark colon ∷ Number r.right
+    ∷ Mark right_bracket ∷ []
 part (Lit size value) = Tie (value == 1) ∷ []
 
 -- nothing, one part, or {PART, PART, ..}
@@ -66,7 +68,8 @@ expr (p ∷ q ∷ ps) =
 abbrev pub conn_of : Option At → List Part → List Word
 conn_of None parts = expr parts
 conn_of (Some port) parts =
-    Mark dot ∷ word.Name port.name ∷ Mark left_parenthesis ∷ expr parts ++ Mark right_parenthesis ∷ []
+    Mark dot ∷ word.Name port.name ∷ Mark left_parenthesis
+    ∷ expr parts ++ Mark right_parenthesis ∷ []
 
 abbrev pub conn : TConn → List Word
 conn c = conn_of c.port c.parts
@@ -77,7 +80,9 @@ conns cs = with_commas (map conn cs)
 
 -- NAME (CONNS)
 abbrev pub inst : TInst → List Word
-inst i = word.Name i.name.name ∷ Space ∷ Mark left_parenthesis ∷ conns i.conns ++ Mark right_parenthesis ∷ []
+inst i =
+    word.Name i.name.name ∷ Space ∷ Mark left_parenthesis
+    ∷ conns i.conns ++ Mark right_parenthesis ∷ []
 
 -- INST, INST, ..
 abbrev pub insts : List TInst → List Word
@@ -86,7 +91,8 @@ insts is = with_commas (map inst is)
 -- a line, two spaces in: DIR RANGE NAMES; or MASTER INSTS;
 abbrev pub item : Item → List Word
 item (Declaration d) =
-    Space ∷ Space ∷ declares d.dir d.wire ++ (range d.range ++ (names d.names ++ Mark semicolon ∷ Newline ∷ []))
+    Space ∷ Space ∷ declares d.dir d.wire
+    ++ (range d.range ++ (names d.names ++ Mark semicolon ∷ Newline ∷ []))
 item (Insts master is) =
     Space ∷ Space ∷ word.Name master.name ∷ Space ∷ insts is ++ Mark semicolon ∷ Newline ∷ []
 
@@ -106,7 +112,8 @@ heading n h =
 
 -- the heading, a line for each item, and the line endmodule
 abbrev pub one_module : TModule → List Word
-one_module m = heading m.name m.header ++ (items m.items ++ (Reserved endmodule_word ∷ Newline ∷ []))
+one_module m =
+    heading m.name m.header ++ (items m.items ++ (Reserved endmodule_word ∷ Newline ∷ []))
 
 abbrev pub modules : List TModule → List Word
 modules ms = flat_map one_module ms

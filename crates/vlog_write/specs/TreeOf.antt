@@ -46,7 +46,12 @@ port_item m port = Declaration (record {
 -- the declaration of a net that is no port
 abbrev pub wire_item : PNet → Item
 wire_item net =
-    Declaration (record { dir = None; wire = true; range = span_of net.range; names = name_at net.name ∷ [] })
+    Declaration (record {
+      dir = None;
+      wire = true;
+      range = span_of net.range;
+      names = name_at net.name ∷ [];
+    })
 
 -- the nets that are no ports
 abbrev pub wires : PModule → List PNet
@@ -60,7 +65,8 @@ bit_part name (Some range) offset = Bit (name_at name) (index_of range offset)
 abbrev pub source_part : PModule → Src → Part
 source_part m src.Tie0 = Lit 1 0
 source_part m src.Tie1 = Lit 1 1
-source_part m (src.Bit net offset) = bit_part (net_name (net_of m net)) (net_range (net_of m net)) offset
+source_part m (src.Bit net offset) =
+    bit_part (net_name (net_of m net)) (net_range (net_of m net)) offset
 
 abbrev pub is_same : Src → Src → Bool
 is_same src.Tie0 src.Tie0 = true
@@ -96,7 +102,8 @@ first_name m (src.Bit net offset ∷ bits) = net_name (net_of m net)
 
 -- a whole net by its name, else bit after bit
 abbrev pub parts_of : PModule → List Src → List Part
-parts_of m bits = if are_whole m bits then Name (name_at (first_name m bits)) ∷ [] else map (source_part m) bits
+parts_of m bits =
+    if are_whole m bits then Name (name_at (first_name m bits)) ∷ [] else map (source_part m) bits
 
 abbrev pub conn_parts : PModule → Conn → List Part
 conn_parts m conn.Open = []
@@ -104,24 +111,28 @@ conn_parts m (conn.Bits bits) = parts_of m bits
 
 -- in a module, the connection of a port of this name
 abbrev pub conn_tree : PModule → List ℕ → Conn → TConn
-conn_tree m port c = record { at = 0; port = Some (name_at port); expr_at = 0; parts = conn_parts m c }
+conn_tree m port c =
+    record { at = 0; port = Some (name_at port); expr_at = 0; parts = conn_parts m c }
 
 -- in a module, a connection for each port of the master, in the order of the ports
 abbrev pub conn_trees : PModule → PModule → List PPort → List Conn → List TConn
 conn_trees m master [] conns = []
 conn_trees m master (port ∷ ports) [] = []
-conn_trees m master (port ∷ ports) (c ∷ conns) = conn_tree m (port_name master port) c ∷ conn_trees m master ports conns
+conn_trees m master (port ∷ ports) (c ∷ conns) =
+    conn_tree m (port_name master port) c ∷ conn_trees m master ports conns
 
 abbrev pub inst_conns : PModule → Option PModule → List Conn → List TConn
 inst_conns m None conns = []
 inst_conns m (Some master) conns = conn_trees m master master.ports conns
 
 abbrev pub inst_tree : Plain → PModule → PInst → TInst
-inst_tree M m inst = record { name = name_at inst.name; conns = inst_conns m (module_of M inst.master) inst.conns }
+inst_tree M m inst =
+    record { name = name_at inst.name; conns = inst_conns m (module_of M inst.master) inst.conns }
 
 -- an item of one instance
 abbrev pub inst_item : Plain → PModule → PInst → Item
-inst_item M m inst = Insts (name_at (module_name (module_of M inst.master))) (inst_tree M m inst ∷ [])
+inst_item M m inst =
+    Insts (name_at (module_name (module_of M inst.master))) (inst_tree M m inst ∷ [])
 
 -- the names of the ports, in their order
 abbrev pub port_names : PModule → List At

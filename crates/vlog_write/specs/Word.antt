@@ -23,7 +23,8 @@ is_reserved name = is_some (position (bytes_eq name) reserved_texts)
 
 -- a simple identifier that is no reserved word
 abbrev pub is_simple : List ℕ → Bool
-is_simple name = begins_word (slice_index name 0) && list_all is_word_byte name && not (is_reserved name)
+is_simple name =
+    begins_word (slice_index name 0) && list_all is_word_byte name && not (is_reserved name)
 
 -- such a name stands as it is, any other between a backslash and a space
 abbrev pub name_text : List ℕ → List ℕ

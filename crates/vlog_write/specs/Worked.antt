@@ -1,6 +1,7 @@
--- The definitions tried on a worked table: two leaf cells, and a module with names that are and aren't written as they
--- are.
+-- The definitions tried on a worked table: two leaf cells, and a module with names that are and
+-- aren't written as they are.
 use Rattle.std.specs.Prelude.{◌≡◌, ℕ, true, false, List, [], ◌∷◌, ◌++◌, Option, Some, None, codes}
+use Rattle.emh_base.specs.declared.plain.Dir.{Dir}
 use Rattle.emh_base.specs.declared.plain.Dir.TheVariants.{Input, Output}
 use Rattle.emh_base.specs.declared.plain.Range.{Range}
 use Rattle.emh_base.specs.declared.plain.Src.{Src}
@@ -17,9 +18,13 @@ use Rattle.vlog_write.specs.Written.{written}
 abbrev net : ℕ → List ℕ → Option Range → PNet
 net n name range = record { id = record { 0 = n }; name = name; range = range }
 
+abbrev port : ℕ → Dir → PPort
+port n dir = record { net = record { 0 = n }; dir = dir }
+
 -- an instance of the master of that id
 abbrev inst : ℕ → List ℕ → ℕ → List Conn → PInst
-inst n name master conns = record { id = record { 0 = n }; name = name; master = record { 0 = master }; conns = conns }
+inst n name master conns =
+    record { id = record { 0 = n }; name = name; master = record { 0 = master }; conns = conns }
 
 -- a leaf with these nets, all of which are ports
 abbrev cell : ℕ → List ℕ → List PNet → List PPort → PModule
@@ -38,19 +43,19 @@ cell n name nets ports = record {
 abbrev inverter : PModule
 inverter =
     cell 1 (codes "INV") (net 0 (codes "A") None ∷ net 1 (codes "Y") None ∷ [])
-    (record { net = record { 0 = 0 }; dir = Input } ∷ record { net = record { 0 = 1 }; dir = Output } ∷ [])
+    (port 0 Input ∷ port 1 Output ∷ [])
 
 -- a leaf with one output of two bits
 abbrev pair : PModule
 pair =
     cell 2 (codes "PAIR") (net 0 (codes "Q") (Some (record { left = 1; right = 0 })) ∷ [])
-    (record { net = record { 0 = 0 }; dir = Output } ∷ [])
+    (port 0 Output ∷ [])
 
 -- bit of the net of that id at an offset
 abbrev bit : ℕ → ℕ → Src
 bit n offset = Bit (record { 0 = n }) offset
 
--- a module without ports, whose first instance is on `bus[3]`, a net, and on bit 3 of `bus`, another
+-- a module without ports, whose first instance is on `bus[3]`, a net, and on bit 3 of the net `bus`
 abbrev top : PModule
 top = record {
   id = record { 0 = 0 };
@@ -62,7 +67,8 @@ top = record {
   ports = [];
   insts =
       inst 0 (codes "x.y") 1 (Bits (bit 2 0 ∷ []) ∷ Bits (bit 3 0 ∷ []) ∷ [])
-      ∷ inst 1 (codes "u") 2 (Bits (Tie0 ∷ bit 3 3 ∷ []) ∷ []) ∷ inst 2 (codes "v") 1 (Open ∷ Bits (Tie1 ∷ []) ∷ []) ∷ [];
+      ∷ inst 1 (codes "u") 2 (Bits (Tie0 ∷ bit 3 3 ∷ []) ∷ [])
+      ∷ inst 2 (codes "v") 1 (Open ∷ Bits (Tie1 ∷ []) ∷ []) ∷ [];
   next_net = 4;
   next_inst = 3;
 }

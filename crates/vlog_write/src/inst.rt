@@ -20,7 +20,8 @@ pub fn push_inst(
 ) -> Result<(), NoMemory>
     requires sound { IsSound plain.now }
     requires nets { HasNets holder.now }
-    ensures { OnOk result (out.new ≡ out.old ++ text (item (inst_item plain.now holder.now inst.now))) }
+    ensures { OnOk result (out.new ≡ out.old
+        ++ text (item (inst_item plain.now holder.now inst.now))) }
 {
     out.extend(b"  ")?;
     match module_of(plain, inst.master) {
@@ -73,7 +74,8 @@ fn push_conns(
 #[tactic(auto, using(crate::proofs::Texts::text_append))]
 fn push_conn(out: &mut List<u8>, holder: &PModule, port: &[u8], conn: &Conn) -> Result<(), NoMemory>
     requires { HasNets holder.now }
-    ensures { OnOk result (out.new ≡ out.old ++ text (conn_words (conn_tree holder.now port.now conn.now))) }
+    ensures { OnOk result (out.new ≡ out.old
+        ++ text (conn_words (conn_tree holder.now port.now conn.now))) }
 {
     out.push(b'.')?;
     push_name(out, port)?;

@@ -29,8 +29,8 @@ kinds words = flat_map word_kinds words
 -- the marks: ( ) , . : ; [ ] { }
 abbrev pub is_written_mark : ℕ → Bool
 is_written_mark byte =
-    byte == 40 || byte == 41 || byte == 44 || byte == 46 || byte == 58 || byte == 59 || byte == 91 || byte == 93
-    || byte == 123 || byte == 125
+    byte == 40 || byte == 41 || byte == 44 || byte == 46 || byte == 58 || byte == 59 || byte == 91
+    || byte == 93 || byte == 123 || byte == 125
 
 -- what a word has to be, to be read as it is
 abbrev pub IsSoundWord : Word → Type 0
@@ -64,4 +64,5 @@ begins_apart (word ∷ words) = is_divider word
 -- each word is sound, and of two neighbours at least one is a mark or white space
 abbrev pub AreApart : List Word → Type 0
 AreApart [] = Unit {0}
-AreApart (word ∷ words) = IsSoundWord word × IsTrue (is_divider word || begins_apart words) × AreApart words
+AreApart (word ∷ words) =
+    IsSoundWord word × IsTrue (is_divider word || begins_apart words) × AreApart words
