@@ -8,6 +8,7 @@ pub mod UnfoldLemmas
 pub mod HeightLemmas
 pub mod ApplyLemmas
 pub mod RoomLemmas
+pub mod LimitLemmas
 pub mod PlacedLemmas
 pub mod FactsLemmas
 pub mod ReadLemmas

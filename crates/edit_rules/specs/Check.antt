@@ -11,7 +11,7 @@ Check = Bool × Refusal
 abbrev pub check : Rule → Object → Bool → Check
 check rule object broken = (broken, record { rule = rule; object = object })
 
--- what the first broken rule tells, none where all are kept
-abbrev pub first_broken : List Check → Option Refusal
+-- what the first broken rule of some tells, none where all are kept
+abbrev pub first_broken : {X : Type 0} → List (Bool × X) → Option X
 first_broken [] = None
 first_broken (c ∷ cs) = if c.0 then Some c.1 else first_broken cs

@@ -18,4 +18,5 @@ pub mod Count
 pub mod Facts
 pub mod Ports
 pub mod Outline
+pub mod Opening
 pub mod Law

@@ -8,11 +8,12 @@ ghost use Rattle.flatten_rules.specs.Lookup.{module_of};
 ghost use Rattle.flatten_rules.specs.Extent.{total};
 ghost use Rattle.edit_rules.specs.Count.{weight_in, counted, level_of};
 
+use crate::limits::BIT_LIMIT;
 use emh_base::{List, ModId, NoMemory, PInst, PModule, Plain};
 use flatten_rules::{module_of, place_of_module};
 
 /// Numbers stop here: the greatest limit plus one.
-const STOP: u64 = 4_000_001;
+pub const STOP: u64 = BIT_LIMIT + 1;
 
 /// What each occurrence of a module counts.
 pub trait Measure {

@@ -1,4 +1,5 @@
 ghost use Rattle.edit_rules.specs.Examples.{LocksBeforeNames, SourcesBeforeWidths, EachInstanceGetsThePort};
+ghost use Rattle.edit_rules.specs.Limits.{IsWithinByTests, CountsOccurrences};
 ghost use Rattle.edit_rules.specs.Law.{StaysGood, StaysGoodInOrder, SurvivorsStayPlaced, OnlySurvivorsArePlaced, SurvivorsStayPlacedInOrder};
 
 /// The definitions tried on edits of the worked example.
@@ -21,4 +22,11 @@ pub fn survivors_stay_placed()
     ensures one { SurvivorsStayPlaced }
     ensures only { OnlySurvivorsArePlaced }
     ensures all { SurvivorsStayPlacedInOrder }
+{}
+
+/// The law of limits: a sound table is within them exactly where none is passed, and what is counted once a module is the
+/// sum over the unfolding. The contract is what this is for.
+pub fn each_limit_is_tested()
+    ensures tests { IsWithinByTests }
+    ensures counts { CountsOccurrences }
 {}

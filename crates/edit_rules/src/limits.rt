@@ -5,8 +5,14 @@ ghost use Rattle.flatten_rules.specs.Lookup.{width};
 ghost use Rattle.flatten_rules.specs.Limits.{bits_of};
 ghost use Rattle.edit_rules.specs.Limits.{has_too_many_occurrences, has_too_many_bits, leads_to};
 
-use crate::count::{Measure, count};
+use crate::count::{Measure, STOP, count};
 use emh_base::{ModId, NoMemory, PModule, Plain, Range};
+
+/// The most occurrences that a top may unfold to. This project's own limit, as the next one is.
+pub const OCCURRENCE_LIMIT: u64 = 1_000_000;
+
+/// The most net bits that these occurrences may have together.
+pub const BIT_LIMIT: u64 = 4_000_000;
 
 /// Each occurrence counts as one.
 #[derive(Clone, Copy)]
@@ -83,7 +89,7 @@ fn bits_of_nets(holder: &PModule) -> u64
 {
     let mut bits = 0;
     for net in holder.nets.as_slice() {
-        bits = (bits + width_of(net.range)).min(4_000_001);
+        bits = (bits + width_of(net.range)).min(STOP);
     }
     bits
 }
@@ -104,7 +110,7 @@ pub fn has_too_many_occurrences(plain: &Plain, top: ModId) -> Result<bool, NoMem
     ensures { IfOk result (λ many. many ≡ has_too_many_occurrences plain.now top) }
 {
     let occurrences = count(plain, &Occurrences {}, top)?;
-    Ok(1_000_000 < occurrences)
+    Ok(OCCURRENCE_LIMIT < occurrences)
 }
 
 /// Whether the occurrences of a top have more than 4,000,000 net bits together.
@@ -113,7 +119,7 @@ pub fn has_too_many_bits(plain: &Plain, top: ModId) -> Result<bool, NoMemory>
     ensures { IfOk result (λ many. many ≡ has_too_many_bits plain.now top) }
 {
     let bits = count(plain, &NetBits {}, top)?;
-    Ok(4_000_000 < bits)
+    Ok(BIT_LIMIT < bits)
 }
 
 /// Whether a walk of instances down from the one module leads to the other, or they are the same.

@@ -179,7 +179,7 @@ fn inst_named<'a>(holder: &'a PModule, name: &[u8]) -> Option<&'a PInst>
 }
 
 /// The module of a name.
-fn module_named<'a>(plain: &'a Plain, name: &[u8]) -> Option<&'a PModule>
+pub fn module_named<'a>(plain: &'a Plain, name: &[u8]) -> Option<&'a PModule>
     ensures { option_copied result ≡ module_named plain.now name.now }
 {
     let mut modules = plain.modules.as_slice().iter();

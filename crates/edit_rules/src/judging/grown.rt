@@ -12,7 +12,7 @@ ghost use Rattle.edit_rules.specs.Facts.{inst_after};
 use super::outline::grown_outline;
 use crate::depth::is_too_deep;
 use crate::facts::Facts;
-use crate::limits::{has_too_many_bits, has_too_many_occurrences, leads_to};
+use crate::limits::{OCCURRENCE_LIMIT, has_too_many_bits, has_too_many_occurrences, leads_to};
 use emh_base::{ModId, Name, NoMemory, Plain};
 use std::alloc::Global;
 
@@ -50,7 +50,7 @@ pub fn limits_with<F: Facts>(
         return Ok(Above {
             recursive: false,
             too_deep: false,
-            too_many_occurrences: facts.totals().occurrences + facts.times(id) > 1_000_000,
+            too_many_occurrences: OCCURRENCE_LIMIT < facts.totals().occurrences + facts.times(id),
             too_many_bits: false,
         });
     }

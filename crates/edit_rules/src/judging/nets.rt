@@ -12,6 +12,7 @@ ghost use Rattle.edit_rules.specs.Nets.{create_net, create_net_rules, create_por
 use super::common::{common, is_net, is_port};
 use crate::facts::Facts;
 use crate::judged::{Judged, keep};
+use crate::limits::BIT_LIMIT;
 use crate::readers::{is_too_wide, lacks_room};
 use emh_base::{Dir, ModId, Name, NetId, Object, Range, Rule};
 
@@ -126,7 +127,7 @@ fn makes_too_many_bits<F: Facts>(facts: &F, id: ModId, range: Option<Range>) -> 
     ensures port { (name : Seq ℕ) (dir : Dir) → result ≡ has_too_many_bits (create_port (F.state facts.now).plain id name dir range) (F.state facts.now).top }
 {
     let more = times_over(width_of(range), facts.times(id));
-    4_000_000 < facts.totals().bits + more
+    BIT_LIMIT < facts.totals().bits + more
 }
 
 /// The width of a range that isn't too wide.
