@@ -13,10 +13,10 @@ use Rattle.std.proofs.lemmas.Map.Views.{Contains-from_any, list_any-from_Contain
 use Rattle.flatten_rules.specs.Graph.{next, IsGraph, Leads, Reaches, NoneReturns, rank_of, NeverRises, Falls}
 use Rattle.flatten_rules.specs.Reach.{AreMarked, Adds}
 
-contains-from_any : (x : ℕ) (xs : List ℕ) → list_any (nat_eq x) xs ≡ true → Contains xs x
+pub contains-from_any : (x : ℕ) (xs : List ℕ) → list_any (nat_eq x) xs ≡ true → Contains xs x
 contains-from_any x xs any = Contains-from_any {eq = nat_eq} eqb-true x xs any
 
-any-from_contains : (x : ℕ) (xs : List ℕ) → Contains xs x → list_any (nat_eq x) xs ≡ true
+pub any-from_contains : (x : ℕ) (xs : List ℕ) → Contains xs x → list_any (nat_eq x) xs ≡ true
 any-from_contains x xs has = list_any-from_Contains nat_eq_equiv x xs has
 
 get_or-replicate_false : (n k : ℕ) → get_or (replicate n false) k false ≡ false

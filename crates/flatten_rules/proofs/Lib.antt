@@ -16,3 +16,4 @@ pub mod Naming
 pub mod FlatNetlist
 pub mod BlockNets
 pub mod NoModules
+pub mod Deciding

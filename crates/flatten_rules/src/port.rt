@@ -8,10 +8,7 @@ use std::alloc::Global;
 
 /// For each net of a module, by its place, the place of the port on it. None where the net of a port isn't there, or
 /// two ports are on one net.
-pub fn port_places(
-    alloc: Global,
-    holder: &PModule,
-) -> Result<Option<Vec<Option<usize>>>, NoMemory>
+pub fn port_places(alloc: Global, holder: &PModule) -> Result<Option<Vec<Option<usize>>>, NoMemory>
     requires { HasNets holder.now }
     ensures own { IfOk result (λ places. IsSome places ↔ HasPorts holder.now) }
     ensures places { IfOk result (λ places. IfSome places (λ places. ArePortPlaces holder.now places.items)) }

@@ -1,25 +1,23 @@
 -- Connections break the same rules with places and without.
-use Rattle.std.proofs.Common.{arith, ◌≡◌, ℕ, zero, suc, ◌+◌, ◌==◌, nat_le, Bool, true, false, cond, List, [], ◌∷◌, ◌++◌, map, flat_map, length, slice_get, Option, Some, None, is_some, is_none, option_map, option_and_then, refl, sym, ap, ◌∙◌}
+use Rattle.std.proofs.Common.{arith, ◌≡◌, ℕ, ◌+◌, ◌==◌, nat_le, Bool, true, false, cond, List, [], ◌∷◌, ◌++◌, map, flat_map, length, slice_get, Option, Some, None, is_some, is_none, option_map, refl, sym, ap, ◌∙◌}
 use Rattle.std.specs.Prelude.{◌||◌, not}
 use Rattle.std.specs.List.{sum_by, list_any}
 use Rattle.std.proofs.lemmas.List.{map-append, length-map}
 use Rattle.std.proofs.lemmas.List.Sums.{sum_by-cons}
 use Rattle.flatten_rules.specs.Lookup.{width}
 use Rattle.vlog_read.specs.declared.tree.At.{At}
-use Rattle.vlog_read.specs.declared.tree.Decl.{Decl}
 use Rattle.vlog_read.specs.declared.tree.Part.{Part}
 use Rattle.vlog_read.specs.declared.tree.Part.TheVariants.{Name, Bit, Bits, Lit}
 use Rattle.vlog_read.specs.declared.tree.TConn.{TConn}
 use Rattle.vlog_read.specs.declared.tree.TInst.{TInst}
-use Rattle.vlog_elab.specs.declared.fault.ElabFault.{ElabFault}
 use Rattle.vlog_elab.specs.declared.face.Port.{Port}
 use Rattle.vlog_elab.specs.declared.face.Face.{Face}
 use Rattle.vlog_elab.specs.declared.scope.Net.{Net}
 use Rattle.vlog_elab.specs.declared.scope.Scope.{Scope}
 use Rattle.vlog_elab.specs.Check.{Check, first, each_after}
-use Rattle.vlog_elab.specs.Named.{Named, named, place_of, firsts}
+use Rattle.vlog_elab.specs.Named.{Named, named, firsts}
 use Rattle.vlog_elab.specs.Steps.{Step, Declares, Places, Connects, Uses, Fits, conn_steps, inst_steps, ports_of, net_at, inst_at, met}
-use Rattle.vlog_elab.specs.Connections.{port_named, ports_named, mixes, conn_checks, part_width, port_place, port_at, width_checks, step_checks}
+use Rattle.vlog_elab.specs.Connections.{port_named, ports_named, mixes, conn_checks, part_width, port_at, width_checks, step_checks}
 use Rattle.vlog_read.specs.Bare.{bare_name, bare_part, bare_conn, bare_inst}
 
 abbrev pub flags : List Check → List Bool

@@ -1,6 +1,6 @@
 -- A tree gives the same table with its places and without.
-use Rattle.std.proofs.Common.{arith, ◌≡◌, ℕ, zero, suc, ◌+◌, ◌==◌, Bool, true, false, cond, List, [], ◌∷◌, ◌++◌, map, flat_map, find, length, slice_get, Option, Some, None, is_some, option_map, bytes_eq, refl, sym, ap, ◌∙◌, subst}
-use Rattle.std.specs.Prelude.{◌||◌, ◌&&◌, not}
+use Rattle.std.proofs.Common.{◌≡◌, ℕ, ◌+◌, Bool, true, false, cond, List, [], ◌∷◌, ◌++◌, map, flat_map, find, length, slice_get, Option, Some, None, is_some, option_map, bytes_eq, refl, sym, ap, ◌∙◌, subst}
+use Rattle.std.specs.Prelude.{◌||◌}
 use Rattle.std.specs.List.{list_any}
 use Rattle.std.proofs.lemmas.List.{map-append, length-map}
 use Rattle.std.proofs.lemmas.Option.{slice_get-map}
@@ -8,12 +8,11 @@ use Rattle.emh_base.specs.declared.plain.Dir.{Dir}
 use Rattle.emh_base.specs.declared.plain.Range.{Range}
 use Rattle.emh_base.specs.declared.plain.PModule.{PModule}
 use Rattle.emh_base.specs.declared.plain.Plain.{Plain}
-use Rattle.emh_base.specs.declared.plain.Conn.{Conn}
 use Rattle.emh_base.specs.declared.plain.Conn.TheVariants as conn
 use Rattle.emh_base.specs.declared.plain.PInst.{PInst}
 use Rattle.flatten_rules.specs.Cycle.{IsFirstOnCycle}
 use Rattle.vlog_elab.specs.declared.scope.Net.{Net}
-use Rattle.vlog_elab.specs.Elaboration.{Elaborates, checks}
+use Rattle.vlog_elab.specs.Elaboration.{checks}
 use Rattle.vlog_elab.specs.Table.{part_net, name_net, decl_nets, conn_nets, inst_nets, item_nets, nets, part_bits, conn_bits, conn_of, is_to, conn_to, conns_of, master_id, insts_in, insts, inst_row, net_row, port_row, row, built}
 use Rattle.vlog_read.specs.declared.tree.At.{At}
 use Rattle.vlog_read.specs.declared.tree.Span.{Span}
@@ -32,12 +31,12 @@ use Rattle.vlog_elab.specs.declared.face.Port.{Port}
 use Rattle.vlog_elab.specs.declared.face.Face.{Face}
 use Rattle.vlog_elab.specs.declared.face.Known.{Known}
 use Rattle.vlog_elab.specs.declared.said.Said.{Said}
-use Rattle.vlog_elab.specs.Check.{Check, first, each_after}
+use Rattle.vlog_elab.specs.Check.{Check, each_after}
 use Rattle.vlog_elab.specs.Named.{Named, named, is_there, firsts, just_names, numbered}
 use Rattle.vlog_elab.specs.Text.{is_leaf, header_names, header_decls, range_of}
 use Rattle.vlog_elab.specs.Faces.{Place, Ranged, Directed, Wired, Placed, range_places, name_place, decl_places, item_places, places, direction_at, wire_at, said, port_of, ports, face, has_module, row_face, added, faces, known}
 use Rattle.vlog_elab.specs.Declarations.{header_checks, place_checks, direction_check, inside_checks, name_check, entry_checks, module_checks, declaration_checks}
-use Rattle.vlog_elab.specs.Steps.{Step, Declares, decl_steps, item_steps, inst_steps, steps, met, ports_of}
+use Rattle.vlog_elab.specs.Steps.{Declares, decl_steps, item_steps, inst_steps, steps, met, ports_of}
 use Rattle.vlog_elab.specs.Connections.{step_checks, inner_checks, connection_checks}
 use Rattle.vlog_read.specs.Bare.{bare_name, bare_span, bare_decl, bare_part, bare_conn, bare_inst, bare_item, bare_header, bare_module, bare}
 use Rattle.vlog_elab.specs.Law.{PlacesDoNotMatter}

@@ -23,6 +23,7 @@ pub mod Row
 pub mod Staying
 pub mod OneAnswer
 mod Placing
+pub mod SomeAnswer
 pub mod OneReading
 pub mod BareConnections
 pub mod BareTrees

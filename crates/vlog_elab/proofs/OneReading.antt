@@ -1,10 +1,18 @@
 -- Over a library a file has at most one table or one fault.
-use Rattle.std.proofs.Common.{◌≡◌, ℕ, Bool, List, length, ap, Result, Ok, Err}
-use Rattle.std.specs.Prelude.{IfOk, IfErr, MatchResult}
+use Rattle.std.proofs.Common.{◌≡◌, ℕ, Bool, List, length, ap, Result, Ok, Err, inl, inr}
+use Rattle.std.specs.Prelude.{◌⊎◌, IfOk, IfErr, MatchResult}
 use Rattle.emh_base.specs.declared.plain.Plain.{Plain}
 use Rattle.vlog_lex.specs.declared.token.LexFault.TheVariants as lex
 use Rattle.vlog_lex.specs.declared.token.LexFault.TheVariants.{BadByte, OpenComment, OpenAttribute, BadLiteral, LongName, Directive}
 use Rattle.vlog_lex.proofs.OneAnswer.{one_list, one_fault, not_both}
+use Rattle.vlog_lex.proofs.OneAnswer.{law as lex_answer}
+use Rattle.vlog_lex.specs.declared.token.Token.{Token}
+use Rattle.vlog_lex.specs.declared.token.LexFault.{LexFault}
+use Rattle.vlog_lex.specs.Lexes.{Lexes}
+use Rattle.vlog_lex.specs.Lexes as lex_rules
+use Rattle.vlog_read.specs.declared.fault.ParseFault.{ParseFault}
+use Rattle.vlog_read.specs.Sentence.{Spells}
+use Rattle.vlog_read.specs.Sentence as sentence
 use Rattle.vlog_read.specs.declared.tree.Tree.{Tree}
 use Rattle.vlog_read.specs.HasTree.{HasTree}
 use Rattle.vlog_read.specs.declared.fault.ParseFault.TheVariants as parse
@@ -15,8 +23,12 @@ use Rattle.vlog_elab.specs.declared.fault.ElabFault.TheVariants as elab
 use Rattle.vlog_elab.specs.declared.fault.ElabFault.TheVariants.{Fault}
 use Rattle.vlog_elab.specs.declared.reads.ReadFault.{ReadFault}
 use Rattle.vlog_elab.specs.declared.reads.ReadFault.TheVariants.{Lex, Parse, Elab}
-use Rattle.vlog_elab.specs.Reads.{Reads, HasParseFault, HasElabFault, HasReadFault, UnlessNoMemory, EachHasAtMostOneReading}
+use Rattle.vlog_elab.specs.Reads.{Reads, HasParseFault, HasElabFault, HasReadFault, UnlessNoMemory, EachHasAtMostOneReading, EachHasSomeReading}
+use Rattle.vlog_elab.specs.Elaboration.{Elaborates}
+use Rattle.vlog_elab.specs.Elaboration as elaboration
+use Rattle.vlog_elab.specs.declared.fault.ElabFault.{ElabFault}
 use Rattle.vlog_elab.proofs.OneAnswer.{one_answer}
+use Rattle.vlog_elab.proofs.SomeAnswer.{some_answer}
 
 -- what has a tree has no fault of its grammar
 no-parse-fault : (bytes : List ℕ) (tree : Tree) (fault : _) → HasTree bytes tree → HasParseFault bytes fault → ⊥
@@ -97,3 +109,22 @@ module _ (library : Plain) (all_leaf : Bool) (bytes : List ℕ) where
   each-fault (Ok plain) table told fault has = no-fault library all_leaf bytes plain fault table has
   each-fault (Err it) table told fault has =
       follows (HasReadFault library all_leaf bytes) (λ other. other ≡ fault) (λ other here. one-read-fault library all_leaf bytes other fault here has) it told
+
+pub some_reading : EachHasSomeReading
+some_reading library all_leaf bytes sound = by_tokens (lex_answer bytes).some
+  where
+    by_table : (tree : Tree) → HasTree bytes tree → ((plain : Plain) × Elaborates library all_leaf tree plain) ⊎ ((fault : ElabFault) × elaboration.HasFault library all_leaf tree fault)
+        → ((plain : Plain) × Reads library all_leaf bytes plain) ⊎ ((fault : ReadFault) × HasReadFault library all_leaf bytes fault)
+    by_table tree has (inl made) = inl (made.0, record { tree = tree; has_tree = has; elaborates = made.1 })
+    by_table tree has (inr told) = inr (Elab told.0, record { tree = tree; has_tree = has; has_fault = told.1 })
+
+    by_tree : (tokens : List Token) → Lexes bytes tokens → ((tree : Tree) × Spells tree tokens) ⊎ ((fault : ParseFault) × sentence.HasFault (length bytes) tokens fault)
+        → ((plain : Plain) × Reads library all_leaf bytes plain) ⊎ ((fault : ReadFault) × HasReadFault library all_leaf bytes fault)
+    by_tree tokens lexes (inl spelled) =
+        by_table spelled.0 (record { tokens = tokens; lexes = lexes; spells = spelled.1 }) (some_answer library all_leaf spelled.0 sound)
+    by_tree tokens lexes (inr told) = inr (Parse told.0, record { tokens = tokens; lexes = lexes; has_fault = told.1 })
+
+    by_tokens : ((tokens : List Token) × Lexes bytes tokens) ⊎ ((fault : LexFault) × lex_rules.HasFault bytes fault)
+        → ((plain : Plain) × Reads library all_leaf bytes plain) ⊎ ((fault : ReadFault) × HasReadFault library all_leaf bytes fault)
+    by_tokens (inl read) = by_tree read.0 read.1 (law (length bytes) read.0).some
+    by_tokens (inr told) = inr (Lex told.0, told.1)

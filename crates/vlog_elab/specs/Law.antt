@@ -1,5 +1,5 @@
 -- The laws of elaboration, which a public call carries.
-use Rattle.std.specs.Prelude.{◌≡◌, ◌↔◌, Bool}
+use Rattle.std.specs.Prelude.{◌≡◌, ◌↔◌, ◌⊎◌, Bool}
 use Rattle.emh_base.specs.declared.plain.Plain.{Plain}
 use Rattle.flatten_rules.specs.Sound.{IsSound}
 use Rattle.vlog_read.specs.declared.tree.Tree.{Tree}
@@ -12,6 +12,11 @@ pub record HasAtMostOneAnswer (M : Plain) (all_leaf : Bool) (tree : Tree) : Type
   pub not_both : (plain : Plain) (fault : ElabFault) → Elaborates M all_leaf tree plain → HasFault M all_leaf tree fault → ⊥
   pub one_table : (some other : Plain) → Elaborates M all_leaf tree some → Elaborates M all_leaf tree other → some ≡ other
   pub one_fault : (some other : ElabFault) → HasFault M all_leaf tree some → HasFault M all_leaf tree other → some ≡ other
+
+-- over a sound table each tree gives a table or has a fault
+abbrev pub EachHasSomeAnswer : Type 0
+EachHasSomeAnswer = (M : Plain) (all_leaf : Bool) (tree : Tree) → IsSound M
+    → ((plain : Plain) × Elaborates M all_leaf tree plain) ⊎ ((fault : ElabFault) × HasFault M all_leaf tree fault)
 
 -- no tree has two answers
 abbrev pub EachHasAtMostOneAnswer : Type 0

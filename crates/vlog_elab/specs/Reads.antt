@@ -2,6 +2,7 @@
 -- of the first of these that fails.
 use Rattle.std.specs.Prelude.{◌≡◌, ◌⊎◌, ℕ, Bool, List, length}
 use Rattle.emh_base.specs.declared.plain.Plain.{Plain}
+use Rattle.flatten_rules.specs.Sound.{IsSound}
 use Rattle.vlog_lex.specs.declared.token.Token.{Token}
 use Rattle.vlog_lex.specs.Lexes.{Lexes}
 use Rattle.vlog_lex.specs.Lexes as lex
@@ -61,6 +62,12 @@ pub record HasAtMostOneReading (library : Plain) (all_leaf : Bool) (bytes : List
       → some ≡ other
   pub one_fault : (some other : ReadFault) → HasReadFault library all_leaf bytes some
       → HasReadFault library all_leaf bytes other → some ≡ other
+
+-- over a sound library bytes give a table or have a fault
+abbrev pub EachHasSomeReading : Type 0
+EachHasSomeReading = (library : Plain) (all_leaf : Bool) (bytes : List ℕ) → IsSound library
+    → ((plain : Plain) × Reads library all_leaf bytes plain)
+    ⊎ ((fault : ReadFault) × HasReadFault library all_leaf bytes fault)
 
 -- no file has two readings
 abbrev pub EachHasAtMostOneReading : Type 0
