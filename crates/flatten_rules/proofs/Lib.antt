@@ -15,3 +15,4 @@ pub mod OneOrder
 pub mod Naming
 pub mod FlatNetlist
 pub mod BlockNets
+pub mod PathOrder
