@@ -4,6 +4,7 @@ use Rattle.std.specs.List.{IsDistinct}
 use Rattle.std.specs.Option.{option_or}
 use Rattle.std.proofs.lemmas.Bool.{true≢false, cases_eq, false_from_ne_true}
 use Rattle.std.proofs.lemmas.Bool.Decides.{nat_tests}
+use Rattle.std.proofs.lemmas.List.{map-append}
 use Rattle.std.proofs.lemmas.List.Elements.{All-map, All-weaker, All-push}
 use Rattle.std.proofs.lemmas.List.Folds.{find-append}
 use Rattle.std.proofs.lemmas.List.Quantifiers.{all_pairs_push}
@@ -237,6 +238,20 @@ module _ (S : State) (id : ModId) (i : InstId) (name : List ℕ) (o : Opened S i
         cells = λ at m e leaf. kept-in at m e ∙ ap Some (each-changed Kept M id f o.holder o.found (λ is. absurd (true≢false (sym is ∙ o.inner))) (λ y is. refl) m (found-own M at m e) leaf);
       }
 
+other-number : (m n : ℕ) → n < m → (m == n) ≡ false
+other-number m n low = grind (arith, nat_tests)
+
+-- the copy comes first: an instance of a module that is there is none of the copy's
+copy-first : (M : Plain) (id : ModId) (i : InstId) (a : PModule) (name : List ℕ) → (M.next_module == id.0) ≡ false
+    → with_master (with_copy M (Some a) name) id i (record { 0 = M.next_module }) ≡ with_copy (with_master M id i (record { 0 = M.next_module })) (Some a) name
+copy-first M id i a name apart =
+    let new : ModId = record { 0 = M.next_module } in
+    let copy : PModule = record a { id = new; name = name; locked = false } in
+    let g : PModule → PModule = changed id (with_insts (at_inst i (λ (y : PInst). record y { master = new }))) in
+    let to : List PModule → Plain = λ modules. record { modules = modules; next_module = M.next_module + 1 } in
+    let same : g copy ≡ copy = ap (λ b. cond b (with_insts (at_inst i (λ (y : PInst). record y { master = new })) copy) copy) apart in
+    ap to (map-append g M.modules (copy ∷ []) ∙ ap (λ last. map g M.modules ++ last ∷ []) same)
+
 pub uniquify-good : (S : State) (id : ModId) (i : InstId) (name : List ℕ) → IsGoodState S → Passes (uniquify_rules S id i name) → IsGoodState (after S (Uniquify id i name))
 uniquify-good S id i name good p =
     let a = common-passes S id p in
@@ -253,6 +268,11 @@ uniquify-good S id i name good p =
     let master : master_of M (inst_in M id i) ≡ Some z.0 = ap (master_of M) x.2 ∙ z.1 in
     let inner : z.0.leaf ≡ false = sym (ap is_leaf (ap (λ (y : Option PInst). module_of M (master_id y)) x.2 ∙ z.1)) ∙ c.0 in
     let new : ModId = record { 0 = M.next_module } in
-    let is : uniquify M id i name ≡ with_copy (with_master M id i new) (Some z.0) name = ap (λ (y : Option PModule). with_copy (with_master M id i new) y name) master in
+    let low : o.holder.id.0 < M.next_module = All-find (λ (y : PModule). y.id.0 < M.next_module) (λ (y : PModule). y.id.0 == id.0) M.modules o.holder good.table.sound.below o.found in
+    let own : o.holder.id.0 ≡ id.0 = ap (λ (at : ModId). at.0) (id-of_found M id o.holder o.found) in
+    let apart : (M.next_module == id.0) ≡ false = other-number M.next_module id.0 (omega (arith, low, own)) in
+    let is : uniquify M id i name ≡ with_copy (with_master M id i new) (Some z.0) name =
+    ap (λ (y : Option PModule). with_master (with_copy M y name) id i new) master ∙ copy-first M id i z.0 name apart
+    in
     stays S (uniquify M id i name) good
     (subst (λ table. KeepsGood M table S.top) (sym is) (copy-good S id i name o good x.0 x.1 z.0 z.1 inner (names.free called name M.modules e.0)))

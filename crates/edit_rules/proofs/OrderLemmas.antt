@@ -16,7 +16,7 @@ use Rattle.flatten_rules.proofs.Sound.{sound-module}
 use Rattle.edit_rules.specs.Order.{InOrder}
 use Rattle.edit_rules.specs.Readers.{master_of, inst_in}
 use Rattle.edit_rules.specs.Changes.{with_module, with_inst, with_insts, with_last_module, at_instances}
-use Rattle.edit_rules.specs.Insts.{with_copy, with_master}
+use Rattle.edit_rules.specs.Insts.{with_copy}
 use Rattle.edit_rules.specs.Apply.{table_after}
 
 abbrev pub Rising : {X : Type 0} → (X → ℕ) → List X → Type 0
@@ -90,18 +90,20 @@ last_added M m order below last insts = record {
   insts = All-push Insts M.modules m order.insts insts;
 }
 
-copied : (M : Plain) (id : ModId) (i : InstId) (master : ModId) (old : Option PModule) (name : List ℕ) → IsSound M → ((m : PModule) → old ≡ Some m → Insts m) → InOrder (with_copy (with_master M id i master) old name)
-copied M id i master None name sound rise = inst_changed M id i (λ there. record there { master = master }) sound (λ x. refl)
-copied M id i master (Some m) name sound rise =
-    let f : PInst → PInst = λ there. record there { master = master } in
-    let g : PModule → PModule = λ x. cond (x.id.0 == id.0) (with_insts (λ there. cond (there.id.0 == i.0) (f there) there) x) x in
-    let table : Plain = with_master M id i master in
-    let below : All (λ (x : PModule). module_number x < M.next_module) table.modules =
-    All-map (λ (x : PModule). module_number x < M.next_module) g M.modules
-    (All-weaker (λ (x : PModule). module_number x < M.next_module) (λ (x : PModule). module_number (g x) < M.next_module)
-    (λ x low. rw (chosen module_number (x.id.0 == id.0) (with_insts (λ there. cond (there.id.0 == i.0) (f there) there) x) x refl) low) M.modules sound.below)
-    in
-    last_added table (record m { id = record { 0 = M.next_module }; name = name; locked = false }) (inst_changed M id i f sound (λ x. refl)) below refl (rise m refl)
+-- an instance of a module of a table in order
+inst_again : (M : Plain) (id : ModId) (i : InstId) (f : PInst → PInst) → InOrder M → ((x : PInst) → inst_number (f x) ≡ inst_number x) → InOrder (with_inst M id i f)
+inst_again M id i f order same =
+    let g : PInst → PInst = λ x. cond (x.id.0 == i.0) (f x) x in
+    let h : PModule → PModule = λ m. cond (m.id.0 == id.0) (with_insts g m) m in
+    record {
+      modules = rises-map module_number h (λ m. chosen module_number (m.id.0 == id.0) (with_insts g m) m refl) M.modules order.modules;
+      insts = All-map Insts h M.modules
+          (All-weaker Insts (λ m. Insts (h m)) (λ m rise. chosen-has Insts (m.id.0 == id.0) (with_insts g m) m (rises-map inst_number g (λ x. chosen inst_number (x.id.0 == i.0) (f x) x (same x)) m.insts rise) rise) M.modules order.insts);
+    }
+
+copied : (M : Plain) (old : Option PModule) (name : List ℕ) → IsSound M → ((m : PModule) → old ≡ Some m → Insts m) → InOrder (with_copy M old name)
+copied M None name sound rise = sound-order M sound
+copied M (Some m) name sound rise = last_added M (record m { id = record { 0 = M.next_module }; name = name; locked = false }) (sound-order M sound) sound.below refl (rise m refl)
 
 master-rise : (M : Plain) (i : Option PInst) → IsSound M → (m : PModule) → master_of M i ≡ Some m → Insts m
 master-rise M None sound m is = let never : None ≡ Some m = is in absurd (cc)
@@ -129,7 +131,7 @@ order-after M (RenameModule m name) sound = module_kept M m _ sound (λ x. refl)
 order-after M (RenameNet m net name) sound = module_kept M m _ sound (λ x. refl) (λ x. refl)
 order-after M (RenameInst m i name) sound = inst_changed M m i _ sound (λ x. refl)
 order-after M (Resize m i master) sound = inst_changed M m i _ sound (λ x. refl)
-order-after M (Uniquify m i name) sound = copied M m i _ (master_of M (inst_in M m i)) name sound (master-rise M (inst_in M m i) sound)
+order-after M (Uniquify m i name) sound = inst_again _ m i _ (copied M (master_of M (inst_in M m i)) name sound (master-rise M (inst_in M m i) sound)) (λ x. refl)
 order-after M (Place path placement) sound = sound-order M sound
 order-after M (Unplace path) sound = sound-order M sound
 order-after M (Lock m) sound = module_kept M m _ sound (λ x. refl) (λ x. refl)

@@ -1,9 +1,10 @@
 -- Edits of the worked example that a reader can follow by hand: its module 2 is a pair of inverters, and its top, module 3,
 -- has the two pairs p and q.
-use Rattle.std.specs.Prelude.{◌≡◌, ℕ, true, List, [], ◌∷◌, map, None, codes}
+use Rattle.std.specs.Prelude.{◌≡◌, ℕ, true, false, List, [], ◌∷◌, map, Some, None, codes}
 use Rattle.std.specs.FinMap.{empty}
 use Rattle.emh_base.specs.declared.ids.ModId.{ModId}
 use Rattle.emh_base.specs.declared.ids.NetId.{NetId}
+use Rattle.emh_base.specs.declared.ids.InstId.{InstId}
 use Rattle.emh_base.specs.declared.plain.Dir.TheVariants.{Input}
 use Rattle.emh_base.specs.declared.plain.Src.{Src}
 use Rattle.emh_base.specs.declared.plain.Src.TheVariants.{Tie0, Bit}
@@ -22,7 +23,11 @@ use Rattle.emh_base.specs.TwoLevel.{two_level}
 use Rattle.flatten_rules.specs.Lookup.{module_of, insts_of}
 use Rattle.edit_rules.specs.Modules.{with_lock}
 use Rattle.edit_rules.specs.Nets.{create_port}
+use Rattle.edit_rules.specs.Insts.{connect}
 use Rattle.edit_rules.specs.Apply.{Refused, apply}
+use Rattle.edit_rules.specs.Readers.{net_in, inst_in, users}
+use Rattle.edit_rules.specs.declared.facts.Spot.TheVariants.{Absent, Inner, Leaf}
+use Rattle.edit_rules.specs.Facts.{module_named, net_named, inst_named, name_of_module, name_of_net, name_of_inst, net_range, port_dir, port_at, net_after, inst_after, module_after, master, is_open, src_at, counters, totals, times, leaf_at}
 
 abbrev pub inverter : ModId
 inverter = record { 0 = 0 }
@@ -70,3 +75,58 @@ abbrev pub EachInstanceGetsThePort : Type 0
 EachInstanceGetsThePort =
     conns_in (create_port two_level pair (codes "z") Input None) top
     ≡ (on 0 ∷ on 2 ∷ Open ∷ []) ∷ (on 2 ∷ on 1 ∷ Open ∷ []) ∷ []
+
+-- The readers of a design in which the pair has a bus port z: at the second pair it is connected to net 0 of the top and,
+-- on the right, to a constant; at the first it is open.
+
+abbrev pub inst : ℕ → InstId
+inst n = record { 0 = n }
+
+abbrev pub bus : State
+bus =
+    let wide : Plain = create_port two_level pair (codes "z") Input (Some (record { left = 1; right = 0 })) in
+    design (connect wide top (inst 1) (net 3) (Bit (net 0) 0 ∷ Tie0 ∷ []))
+
+abbrev pub NamesAreRead : Type 0
+NamesAreRead =
+    (module_named bus (codes "pair") ≡ Some pair)
+    × (net_named bus pair (codes "z") ≡ Some (net 3))
+    × (net_named bus pair (codes "u1") ≡ None)
+    × (inst_named bus top (codes "q") ≡ Some (inst 1))
+    × (inst_named bus top (codes "w") ≡ None)
+    × (name_of_module (module_of bus.plain pair) ≡ codes "pair")
+    × (name_of_net (net_in bus.plain pair (net 3)) ≡ codes "z")
+    × (name_of_inst (inst_in bus.plain top (inst 1)) ≡ codes "q")
+
+abbrev pub PortsAreRead : Type 0
+PortsAreRead =
+    (net_range bus pair (net 3) ≡ Some (Some (record { left = 1; right = 0 })))
+    × (net_range bus pair (net 2) ≡ Some None)
+    × (port_dir bus pair (net 3) ≡ Some Input)
+    × (port_dir bus pair (net 2) ≡ None)
+    × (port_at bus pair 2 ≡ Some (net 3))
+    × (net_after bus pair (Some (net 2)) ≡ Some (net 3))
+    × (net_after bus pair (Some (net 3)) ≡ None)
+    × (counters bus pair ≡ record { next_net = 4; next_inst = 2 })
+
+abbrev pub InstancesAreRead : Type 0
+InstancesAreRead =
+    (master bus top (inst 1) ≡ Some pair)
+    × (is_open bus top (inst 0) (net 3) ≡ true)
+    × (is_open bus top (inst 1) (net 3) ≡ false)
+    × (src_at bus top (inst 1) (net 3) 0 ≡ Some (Bit (net 0) 0))
+    × (src_at bus top (inst 1) (net 3) 1 ≡ Some Tie0)
+    × (src_at bus top (inst 0) (net 3) 1 ≡ None)
+    × (inst_after bus top None ≡ Some (inst 0))
+    × (inst_after bus top (Some (inst 0)) ≡ Some (inst 1))
+    × (module_after bus (Some pair) ≡ Some top)
+    × (module_after bus (Some top) ≡ None)
+
+abbrev pub UnfoldingIsRead : Type 0
+UnfoldingIsRead =
+    (users bus.plain pair ≡ 2)
+    × (totals bus ≡ record { occurrences = 7; bits = 13 })
+    × (times bus inverter ≡ 4)
+    × (leaf_at bus (inst 0 ∷ inst 1 ∷ []) ≡ Leaf None)
+    × (leaf_at bus (inst 1 ∷ []) ≡ Inner)
+    × (leaf_at bus (inst 7 ∷ []) ≡ Absent)

@@ -143,7 +143,7 @@ resize_rules S m inst master =
     ∷ check PortsDiffer (Module master) (not (same_ports old new))
     ∷ []
 
--- Uniquify: a new module, an unlocked copy of the master; the instance gets it as its master
+-- Uniquify: a new module, an unlocked copy of the master; then the instance gets it as its master
 
 abbrev pub with_copy : Plain → Option PModule → List ℕ → Plain
 with_copy M None name = M
@@ -152,7 +152,7 @@ with_copy M (Some m) name =
 
 abbrev pub uniquify : Plain → ModId → InstId → List ℕ → Plain
 uniquify M m inst name =
-    with_copy (with_master M m inst (record { 0 = M.next_module })) (master_of M (inst_in M m inst)) name
+    with_master (with_copy M (master_of M (inst_in M m inst)) name) m inst (record { 0 = M.next_module })
 
 abbrev pub uniquify_rules : State → ModId → InstId → List ℕ → List Check
 uniquify_rules S m inst name =

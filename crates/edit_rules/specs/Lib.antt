@@ -11,11 +11,11 @@ pub mod Carry
 pub mod Apply
 pub mod Survival
 pub mod Good
-pub mod Examples
 pub mod Judged
 pub mod Order
 pub mod Count
 pub mod Facts
+pub mod Examples
 pub mod Ports
 pub mod Outline
 pub mod Opening

@@ -140,10 +140,12 @@ pub fn uniquify(plain: &Plain, id: ModId, inst: InstId, name: &Name) -> Result<P
     ensures { IfOk result (λ made. made ≡ uniquify plain.now id inst name.now) }
 {
     let own = ModId(plain.next_module);
-    let inside = with_master(plain, id, inst, own)?;
     match master_of(plain, id, inst) {
-        None => Ok(inside),
-        Some(old) => with_last_module(&inside, copy_of(old, own, name)?),
+        None => with_master(plain, id, inst, own),
+        Some(old) => {
+            let grown = with_last_module(plain, copy_of(old, own, name)?)?;
+            with_master(&grown, id, inst, own)
+        }
     }
 }
 

@@ -1,4 +1,4 @@
-ghost use Rattle.edit_rules.specs.Examples.{LocksBeforeNames, SourcesBeforeWidths, EachInstanceGetsThePort};
+ghost use Rattle.edit_rules.specs.Examples.{LocksBeforeNames, SourcesBeforeWidths, EachInstanceGetsThePort, NamesAreRead, PortsAreRead, InstancesAreRead, UnfoldingIsRead};
 ghost use Rattle.edit_rules.specs.Limits.{IsWithinByTests, CountsOccurrences};
 ghost use Rattle.edit_rules.specs.Law.{StaysGood, StaysGoodInOrder, SurvivorsStayPlaced, OnlySurvivorsArePlaced, SurvivorsStayPlacedInOrder};
 
@@ -7,6 +7,14 @@ pub fn worked_edits()
     ensures locks { LocksBeforeNames }
     ensures sources { SourcesBeforeWidths }
     ensures ports { EachInstanceGetsThePort }
+{}
+
+/// What is read of a design, tried on the worked example with a bus.
+pub fn worked_readers()
+    ensures names { NamesAreRead }
+    ensures ports { PortsAreRead }
+    ensures instances { InstancesAreRead }
+    ensures unfolding { UnfoldingIsRead }
 {}
 
 /// The law of good states: an edit that no rule refuses leads from a good state to a good one, and so do edits in order.

@@ -17,3 +17,4 @@ pub mod FlatNetlist
 pub mod BlockNets
 pub mod NoModules
 pub mod Deciding
+pub mod PathOrder

@@ -1,12 +1,15 @@
 -- The law of walks: which occurrences an unfolding has.
-use Rattle.std.proofs.Common.{◌≡◌, ◌≢◌, ℕ, zero, suc, ◌-◌, ◌<◌, ◌≤◌, ◌==◌, Bool, List, [], ◌∷◌, ◌++◌, length, reverse, flat_map, get_or, slice_get, Option, Some, None, option_map, option_and_then, AllPairs, Contains, append-nil, refl, sym, ap, ◌∙◌, subst, arith, ⊎_elim}
+use Rattle.std.proofs.Common.{◌≡◌, ◌≢◌, ℕ, zero, suc, ◌-◌, ◌<◌, ◌≤◌, ◌==◌, Bool, List, [], ◌∷◌, ◌++◌, length, reverse, flat_map, get_or, slice_get, Option, Some, None, option_map, option_and_then, AllPairs, Contains, append-nil, refl, sym, ap, ◌∙◌, subst, arith, ⊎_elim, ap₂, nat_lt, true, false}
 use Rattle.std.specs.List.{position_or_len}
 use Rattle.std.proofs.lemmas.Bool.{cases_lt}
 use Rattle.std.proofs.lemmas.Bool.Decides.{nat_tests}
 use Rattle.std.proofs.lemmas.Option.{slice_get_within, get_or_from_slice_get}
-use Rattle.std.proofs.lemmas.List.{append_assoc, append_cancel_left, length-append, get_or_append_left, get_or-append_right, reverse-append, reverse-reverse, length-reverse}
+use Rattle.std.proofs.lemmas.List.{append_assoc, length-append, get_or_append_left, get_or-append_right, reverse-append, reverse-reverse, length-reverse}
 use Rattle.std.proofs.lemmas.List.Elements.{All-contains, All-nil, All-cons, Contains-append_left, Contains-append_right, Contains-append_cases, Contains-get_or}
 use Rattle.std.proofs.lemmas.List.Folds.{find_at}
+use Rattle.std.specs.declared.cmp.Ordering.TheVariants.{Less, Equal}
+use Rattle.std.specs.Ordering.{ordering_then}
+use Rattle.emh_base.specs.Path.{step_cmp, path_cmp}
 use Rattle.emh_base.specs.declared.ids.ModId.{ModId}
 use Rattle.emh_base.specs.declared.ids.InstId.{InstId}
 use Rattle.emh_base.specs.declared.plain.PInst.{PInst}
@@ -17,6 +20,7 @@ use Rattle.flatten_rules.specs.Unfolding.{Occurrence, unfolded, occurrences, mod
 use Rattle.flatten_rules.specs.Limits.{WalksAreShort}
 use Rattle.flatten_rules.specs.Sound.{IsSound}
 use Rattle.flatten_rules.specs.Walk.{id_up, Unfolds, EachWalkOnce}
+use Rattle.flatten_rules.specs.ByPath.{StandsBefore}
 use Rattle.flatten_rules.proofs.Sound.{All-find}
 use Rattle.flatten_rules.proofs.Walks.{find-own, find-passes, id-of_found, and_then-some}
 
@@ -65,6 +69,32 @@ flat_map-pairs R f (z ∷ xs) each across =
     let piece = flat_map-from f xs y has_y in
     let later = across 0 (suc piece.place) piece.item (omega arith) (omega (arith, piece.within)) in
     later x y has_x (subst (λ w. Contains (f w) y) (sym piece.at) piece.has))
+
+-- paths in their order
+
+less-step : (a b : InstId) → a.0 < b.0 → step_cmp a b ≡ Less
+less-step a b less = let is : nat_lt a.0 b.0 ≡ true = grind (arith, nat_tests) in rw is refl
+
+same-step : (a : InstId) → step_cmp a a ≡ Equal
+same-step a =
+    let low : nat_lt a.0 a.0 ≡ false = grind (arith, nat_tests) in
+    let same : (a.0 == a.0) ≡ true = grind (arith, nat_tests) in
+    rw (low, same) refl
+
+same-front : (path xs ys : List InstId) → path_cmp (path ++ xs) (path ++ ys) ≡ path_cmp xs ys
+same-front [] xs ys = refl
+same-front (i ∷ path) xs ys =
+    ap (λ order. ordering_then order (path_cmp (path ++ xs) (path ++ ys))) (same-step i) ∙ same-front path xs ys
+
+same-path : (path : List InstId) → path_cmp path path ≡ Equal
+same-path [] = refl
+same-path (i ∷ path) = ap (λ order. ordering_then order (path_cmp path path)) (same-step i) ∙ same-path path
+
+-- a path that stands before another isn't it
+apart : (a b : Occurrence) → StandsBefore a b → a.0 ≢ b.0
+apart a b less same =
+    let never : Less ≡ Equal = sym less ∙ ap (λ path. path_cmp a.0 path) (sym same) ∙ same-path a.0 in
+    absurd (cc)
 
 -- the master's id at the end of one more instance
 abbrev id_step : Plain → InstId → ModId → Option ModId
@@ -224,39 +254,38 @@ module _ (M : Plain) (rise : InstsRise M) where
             leads = ap (λ o. option_and_then (λ (k : ModId). id_down M k more.rest) o) step ∙ more.leads;
           }
 
-  -- below two instances of one module no path is the same
-  apart : (levels : ℕ) (path : List InstId) (a b : PInst) → a.id.0 < b.id.0 → (x y : Occurrence) → Contains (below M path levels a) x → Contains (below M path levels b) y → x.0 ≢ y.0
-  apart levels path a b lower x y has_x has_y same =
+  -- below two instances of one module the paths stand in the order of these
+  lower : (levels : ℕ) (path : List InstId) (a b : PInst) → a.id.0 < b.id.0 → (x y : Occurrence) → Contains (below M path levels a) x → Contains (below M path levels b) y → path_cmp x.0 y.0 ≡ Less
+  lower levels path a b less x y has_x has_y =
       let at_x = unfolded-at levels (path ++ a.id ∷ []) a.master x has_x in
       let at_y = unfolded-at levels (path ++ b.id ∷ []) b.master y has_y in
-      let whole : path ++ (a.id ∷ at_x.rest) ≡ path ++ (b.id ∷ at_y.rest) =
-      sym (append_assoc path (a.id ∷ []) at_x.rest) ∙ sym at_x.is ∙ same ∙ at_y.is ∙ append_assoc path (b.id ∷ []) at_y.rest
-      in
-      let heads : a.id ∷ at_x.rest ≡ b.id ∷ at_y.rest = append_cancel_left path (a.id ∷ at_x.rest) (b.id ∷ at_y.rest) whole in
-      let ids : a.id ≡ b.id = cc in
-      absurd (omega (arith, ap (λ (i : InstId). i.0) ids))
+      ap₂ path_cmp (at_x.is ∙ append_assoc path (a.id ∷ []) at_x.rest) (at_y.is ∙ append_assoc path (b.id ∷ []) at_y.rest)
+      ∙ same-front path (a.id ∷ at_x.rest) (b.id ∷ at_y.rest) ∙ ap (λ order. ordering_then order (path_cmp at_x.rest at_y.rest)) (less-step a.id b.id less)
 
-  -- and none below an instance is that of the module itself
-  longer : (levels : ℕ) (path : List InstId) (a : PInst) (y : Occurrence) → Contains (below M path levels a) y → path ≢ y.0
-  longer levels path a y has same =
+  -- and behind that of the module itself
+  behind : (levels : ℕ) (path : List InstId) (a : PInst) (y : Occurrence) → Contains (below M path levels a) y → path_cmp path y.0 ≡ Less
+  behind levels path a y has =
       let at = unfolded-at levels (path ++ a.id ∷ []) a.master y has in
-      absurd (omega (arith, ap length same, ap length at.is, length-append (path ++ a.id ∷ []) at.rest, length-append path (a.id ∷ [])))
+      ap₂ path_cmp (sym (append-nil path)) (at.is ∙ append_assoc path (a.id ∷ []) at.rest) ∙ same-front path [] (a.id ∷ at.rest)
 
-  unfolded-once : (levels : ℕ) (path : List InstId) (m : ModId) → AllPairs (λ (a b : Occurrence). a.0 ≢ b.0) (unfolded M path m levels)
-  unfolded-once zero path m = subst (AllPairs (λ (a b : Occurrence). a.0 ≢ b.0)) (sym (unfolded-zero M path m)) (λ i j d low within. absurd (omega arith))
-  unfolded-once (suc levels) path m =
-      let Differ : Occurrence → Occurrence → Type 0 = λ a b. a.0 ≢ b.0 in
-      let blocks = flat_map-pairs Differ (below M path levels) (insts_of (module_of M m)) (λ inst. unfolded-once levels (path ++ inst.id ∷ []) inst.master)
-      (λ i j d low within. apart levels path (get_or (insts_of (module_of M m)) i d) (get_or (insts_of (module_of M m)) j d) (insts-rise m i j d low within))
+  pub unfolded-rises : (levels : ℕ) (path : List InstId) (m : ModId) → AllPairs StandsBefore (unfolded M path m levels)
+  unfolded-rises zero path m = subst (AllPairs StandsBefore) (sym (unfolded-zero M path m)) (λ i j d low within. absurd (omega arith))
+  unfolded-rises (suc levels) path m =
+      let blocks = flat_map-pairs StandsBefore (below M path levels) (insts_of (module_of M m)) (λ inst. unfolded-rises levels (path ++ inst.id ∷ []) inst.master)
+      (λ i j d low within. lower levels path (get_or (insts_of (module_of M m)) i d) (get_or (insts_of (module_of M m)) j d) (insts-rise m i j d low within))
       in
-      let here : AllPairs Differ ((path, m) ∷ []) = λ i j d low within. absurd (omega arith) in
-      let all = pairs-append Differ ((path, m) ∷ []) (flat_map (below M path levels) (insts_of (module_of M m))) here blocks (λ x y has_x has_y.
+      let here : AllPairs StandsBefore ((path, m) ∷ []) = λ i j d low within. absurd (omega arith) in
+      let all = pairs-append StandsBefore ((path, m) ∷ []) (flat_map (below M path levels) (insts_of (module_of M m))) here blocks (λ x y has_x has_y.
       let First : Occurrence → Type 0 = λ o. path ≡ o.0 in
       let mine : path ≡ x.0 = All-contains First ((path, m) ∷ []) x (All-cons First (path, m) [] refl (All-nil First)) has_x in
       let piece = flat_map-from (below M path levels) (insts_of (module_of M m)) y has_y in
-      λ same. longer levels path piece.item y piece.has (mine ∙ same))
+      ap (λ p. path_cmp p y.0) (sym mine) ∙ behind levels path piece.item y piece.has)
       in
-      subst (AllPairs Differ) (sym (unfolded-step M levels path m)) all
+      subst (AllPairs StandsBefore) (sym (unfolded-step M levels path m)) all
+
+  unfolded-once : (levels : ℕ) (path : List InstId) (m : ModId) → AllPairs (λ (a b : Occurrence). a.0 ≢ b.0) (unfolded M path m levels)
+  unfolded-once levels path m i j d low within =
+      apart (get_or (unfolded M path m levels) i d) (get_or (unfolded M path m levels) j d) (unfolded-rises levels path m i j d low within)
 
   -- what the unfolding has, and where the path leads
   has-from_leads : (top : ModId) (path : List InstId) (id : ModId) → length path ≤ 256 → id_up M top (reverse path) ≡ Some id → Contains (occurrences M top) (path, id)

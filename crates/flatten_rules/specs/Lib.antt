@@ -16,3 +16,4 @@ pub mod Fresh
 pub mod Sorted
 pub mod FlatLines
 pub mod TwoLevel
+pub mod ByPath

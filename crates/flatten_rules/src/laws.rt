@@ -1,4 +1,5 @@
 ghost use Rattle.flatten_rules.specs.Domains.{EachBlockNet};
+ghost use Rattle.flatten_rules.specs.ByPath.{EachPathInOrder};
 ghost use Rattle.flatten_rules.specs.Texts.{EachTextOnce};
 ghost use Rattle.flatten_rules.specs.TwoLevel.{TwoLevelUnfolds};
 ghost use Rattle.flatten_rules.specs.Walk.{EachWalkOnce};
@@ -24,4 +25,10 @@ pub fn each_walk_once()
 /// for.
 pub fn each_block_net()
     ensures { EachBlockNet }
+{}
+
+/// The law of paths: where instances have rising ids, the occurrences by path and the block instances by path have the
+/// lists of them as their entries, in preorder. The contract is what this is for.
+pub fn each_path_in_order()
+    ensures { EachPathInOrder }
 {}

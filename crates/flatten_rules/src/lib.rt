@@ -26,7 +26,9 @@ mod tracer;
 pub use cycle::first_on_cycle;
 pub use domain::{Fresh, FreshBit, FreshInst, FreshOcc, FreshPin};
 pub use flatten::fresh;
-pub use laws::{each_block_net, each_text_once, each_walk_once, two_level_unfolds};
+pub use laws::{
+    each_block_net, each_path_in_order, each_text_once, each_walk_once, two_level_unfolds,
+};
 pub use limits::is_within;
 pub use lines::flat_lines;
 pub use lookup::{find, module_of, net_of, place_of_module, port_of, width};

@@ -2,6 +2,8 @@ mod asks;
 mod designs;
 mod done;
 mod limits;
+mod opening;
+mod order;
 mod refused;
 mod rows;
 mod same;

@@ -10,14 +10,14 @@ use emh_base::{Dir, InstId, List, ModId, NoMemory, Object, PInst, PModule, State
 use std::alloc::Global;
 
 /// A top that holds nothing.
-const TOP: Design = Design {
+pub const TOP: Design = Design {
     modules: &[Module { name: "t", ..EMPTY }],
     next_module: 1,
     ..BARE
 };
 
 /// Module eK, whose id is K + 1, with so many instances of the one before.
-fn link(alloc: Global, number: u32, count: u32) -> Result<PModule, NoMemory> {
+pub fn link(alloc: Global, number: u32, count: u32) -> Result<PModule, NoMemory> {
     let name = format!(in alloc; "e{number}")?;
     let mut insts = List::new(alloc);
     for inst in 0..count {
@@ -42,8 +42,8 @@ fn link(alloc: Global, number: u32, count: u32) -> Result<PModule, NoMemory> {
 }
 
 /// A top that holds nothing, and so many modules, each with so many instances of the one before.
-fn chain(alloc: Global, links: u32, count: u32) -> Result<State, NoMemory> {
-    let mut state = state_of(alloc, &TOP)?;
+pub fn chain(alloc: Global, top: &Design, links: u32, count: u32) -> Result<State, NoMemory> {
+    let mut state = state_of(alloc, top)?;
     state.plain.modules.push(link(alloc, 0, 0)?)?;
     for number in 1..links {
         state.plain.modules.push(link(alloc, number, count)?)?;
@@ -54,7 +54,7 @@ fn chain(alloc: Global, links: u32, count: u32) -> Result<State, NoMemory> {
 
 #[test]
 fn walks_have_at_most_256_instances(rt: HostRuntime) -> Result<(), Judged> {
-    let mut state = chain(rt.alloc(), 257, 1)?;
+    let mut state = chain(rt.alloc(), &TOP, 257, 1)?;
     let told = (29, TooDeep, Object::Module(ModId(257)));
     refuses(&rt, rt.alloc(), &mut state, CreateInst(0, "x", 257), told)?;
     does(
@@ -94,7 +94,7 @@ const TOO_MANY: &[(Ask, Told)] = &[
 
 #[test]
 fn a_top_has_at_most_1000000_occurrences(rt: HostRuntime) -> Result<(), Judged> {
-    let mut state = chain(rt.alloc(), 19, 2)?;
+    let mut state = chain(rt.alloc(), &TOP, 19, 2)?;
     for (ask, made) in TREES {
         does(&rt, rt.alloc(), &mut state, *ask, Some(*made), &[])?;
     }
@@ -106,7 +106,7 @@ fn a_top_has_at_most_1000000_occurrences(rt: HostRuntime) -> Result<(), Judged> 
 
 #[test]
 fn what_the_top_does_not_reach_has_no_limit(rt: HostRuntime) -> Result<(), Judged> {
-    let mut state = chain(rt.alloc(), 201, 2)?;
+    let mut state = chain(rt.alloc(), &TOP, 201, 2)?;
     let net = CreateNet(1, "n", Some((0, 4095)));
     does(&rt, rt.alloc(), &mut state, net, Some(0), &[])?;
     let told = (17, TooManyOccurrences, Object::Module(ModId(201)));
@@ -127,7 +127,7 @@ const WIDEST: Module = Module {
 
 /// Module 0 has 15,625 bits, and is 256 times below the top, module 8: 4,000,000 bits. The top doesn't reach modules 9
 /// and 10.
-const FULL: Design = Design {
+pub const FULL: Design = Design {
     modules: &[
         WIDEST,
         Module {

@@ -59,7 +59,7 @@ pub const TOP: Module = Module {
     ..EMPTY
 };
 
-const TWO_LEVEL: Design = Design {
+pub const TWO_LEVEL: Design = Design {
     modules: &[INV, BUF, PAIR, TOP],
     next_module: 4,
     top: 3,
@@ -317,7 +317,7 @@ fn edits_of_the_worked_example(rt: HostRuntime) -> Result<(), Judged> {
 }
 
 /// The worked example with each counter at its end.
-const SPENT: Design = Design {
+pub const SPENT: Design = Design {
     modules: &[
         Module {
             next_net: 4294967295,

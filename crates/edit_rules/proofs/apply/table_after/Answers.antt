@@ -34,3 +34,6 @@ returns-in-RenameInst c = made_at c.args.plain.now _ _ c.rename_inst.result c.in
 
 pub returns-in-Resize : goal.returns-in-Resize
 returns-in-Resize c = made_at c.args.plain.now _ _ c.with_master.result c.in-Resize.is c.with_master.ensures
+
+pub returns-in-Uniquify : goal.returns-in-Uniquify
+returns-in-Uniquify c = made_at c.args.plain.now _ _ c.uniquify.result c.in-Uniquify.is c.uniquify.ensures
