@@ -1,0 +1,10 @@
+pub mod Pieces
+pub mod Naming
+pub mod WordTexts
+pub mod Forms
+pub mod Table
+pub mod Written
+pub mod LineTexts
+pub mod Sources
+pub mod NetBits
+pub mod Division

@@ -1,0 +1,23 @@
+//! Reads scripts: lines of words, each of which asks for one command.
+#![tactic(auto)]
+
+mod command;
+mod history;
+mod insts;
+mod laws;
+mod lines;
+mod made;
+mod modules;
+mod netlists;
+mod nets;
+mod number;
+mod observers;
+mod read;
+mod reports;
+mod settings;
+mod spots;
+mod word;
+
+pub use command::{BitWord, Command};
+pub use laws::{each_command_reads, each_line_reads, each_word_reads};
+pub use lines::{LINE_LIMIT, Line, Script, ScriptFault, script};
