@@ -5,6 +5,7 @@ pub mod Forms
 pub mod Table
 pub mod Written
 pub mod LineTexts
-pub mod Sources
+pub mod BitWalks
 pub mod NetBits
 pub mod Division
+pub mod Joined

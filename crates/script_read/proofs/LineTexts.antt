@@ -1,5 +1,5 @@
 -- The line that is written for a command reads as it.
-use Rattle.std.proofs.Common.{◌≡◌, refl, ap, ℕ, ℤ, pos, negsuc, ◌-◌, ◌^◌, ◌<◌, ◌==◌, Bool, true, false, ◌&&◌, ◌||◌, zero, suc, List, [], ◌∷◌, ◌++◌, length, get_or, map, flat_map, Option, Some, None, if◌then◌else◌, arith}
+use Rattle.std.proofs.Common.{◌≡◌, ◌∙◌, refl, ap, ℕ, ℤ, pos, negsuc, ◌-◌, ◌^◌, ◌<◌, ◌==◌, Bool, true, false, ◌&&◌, ◌||◌, zero, suc, List, [], ◌∷◌, ◌++◌, length, get_or, map, flat_map, Option, Some, None, if◌then◌else◌, arith}
 use Rattle.std.specs.List.{list_all, AllByRecursion, slice_split, join_with_byte}
 use Rattle.std.specs.Fmt.{decimal, signed_decimal}
 use Rattle.std.proofs.lemmas.Bool.{and_parts, both_ways}
@@ -280,3 +280,7 @@ pub each_line_reads : (line : List ℕ) (words : List (List ℕ)) (of : Command)
 each_line_reads line words of same =
     let is = command_is_writable (words_in (without_return line)) of (asks_some line words of same) in
     line_of_words (words_by of) of (headed of) (fields_plain (fields_of of) is) (written of is (command_is_built (words_in (without_return line)) of (asks_some line words of same)))
+
+pub text_reads : (of : Command) (text : List ℕ) → text ≡ line_text of → (line : List ℕ) (words : List (List ℕ))
+    → line_says line ≡ Asks words of → line_says text ≡ Asks (words_by of) of
+text_reads of text is line words same = ap line_says is ∙ each_line_reads line words of same

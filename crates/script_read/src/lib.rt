@@ -12,12 +12,15 @@ mod netlists;
 mod nets;
 mod number;
 mod observers;
+mod put;
 mod read;
 mod reports;
 mod settings;
 mod spots;
+mod text;
 mod word;
 
 pub use command::{BitWord, Command};
 pub use laws::{each_command_reads, each_line_reads, each_word_reads};
 pub use lines::{LINE_LIMIT, Line, Script, ScriptFault, script};
+pub use text::text_of;
