@@ -9,3 +9,5 @@ pub mod BitWalks
 pub mod NetBits
 pub mod Division
 pub mod Joined
+pub mod Live
+pub mod BitRuns

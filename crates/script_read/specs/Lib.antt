@@ -5,4 +5,5 @@ pub mod Form
 pub mod Table
 pub mod Written
 pub mod Script
+pub mod Resolve
 pub mod Law
