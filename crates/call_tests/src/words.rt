@@ -1,5 +1,5 @@
 //! Word tables.
-use word_table::{Words, reserved_words};
+use word_table::{Words, line_words, reserved_words, rule_names};
 
 const WRITTEN: &[&[u8]] = word_table::words![b"" b"a" b"ab" b"b"];
 
@@ -35,6 +35,40 @@ fn the_reserved_words_are_found_by_row(rt: HostRuntime) {
         (b"modul", None),
         (b"Module", None),
         (b"cell2", None),
+    ];
+    for (word, row) in cases {
+        assert_eq!(rt; table.find(word), row);
+    }
+}
+
+#[test]
+fn the_first_words_of_lines_are_found_by_row(rt: HostRuntime) {
+    let table = line_words();
+    let cases: [(&[u8], Option<u16>); 7] = [
+        (b"at", Some(0)),
+        (b"churn", Some(4)),
+        (b"connect", Some(6)),
+        (b"place", Some(28)),
+        (b"write", Some(42)),
+        (b"pins", None),
+        (b"Load", None),
+    ];
+    for (word, row) in cases {
+        assert_eq!(rt; table.find(word), row);
+    }
+}
+
+#[test]
+fn the_names_of_rules_are_found_by_row(rt: HostRuntime) {
+    let table = rule_names();
+    let cases: [(&[u8], Option<u16>); 7] = [
+        (b"AlreadyOpen", Some(0)),
+        (b"BadGroup", Some(3)),
+        (b"NotLegal", Some(39)),
+        (b"NothingToRedo", Some(42)),
+        (b"WidthMismatch", Some(65)),
+        (b"Nothing", None),
+        (b"Not", None),
     ];
     for (word, row) in cases {
         assert_eq!(rt; table.find(word), row);

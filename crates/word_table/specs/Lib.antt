@@ -1,2 +1,4 @@
 pub mod Texts
 pub mod Reserved
+pub mod LineWords
+pub mod RuleNames

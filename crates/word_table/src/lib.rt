@@ -1,8 +1,12 @@
 //! Sorted tables of distinct byte words. A macro writes a table in a function's body, and no table takes memory.
 #![tactic(auto)]
 
+mod line;
 mod reserved;
+mod rule;
 mod table;
 
+pub use line::line_words;
 pub use reserved::reserved_words;
+pub use rule::rule_names;
 pub use table::Words;

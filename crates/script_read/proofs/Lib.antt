@@ -1,0 +1,13 @@
+pub mod Pieces
+pub mod Naming
+pub mod WordTexts
+pub mod Forms
+pub mod Table
+pub mod Written
+pub mod LineTexts
+pub mod BitWalks
+pub mod NetBits
+pub mod Division
+pub mod Joined
+pub mod Live
+pub mod BitRuns

@@ -1,0 +1,16 @@
+ghost use Rattle.script_read.specs.Law.{EachWordReads, EachCommandReads, EachLineReads};
+
+/// The word that is written for a value says that value. The contract is what this is for.
+pub fn each_word_reads()
+    ensures { EachWordReads }
+{}
+
+/// The words that are written for a command that a line asks for ask for it. The contract is what this is for.
+pub fn each_command_reads()
+    ensures { EachCommandReads }
+{}
+
+/// The line that is written for a command that a line asks for asks for it. The contract is what this is for.
+pub fn each_line_reads()
+    ensures { EachLineReads }
+{}

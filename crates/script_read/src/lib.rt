@@ -1,0 +1,30 @@
+//! Reads scripts: lines of words, each of which asks for one command.
+#![tactic(auto)]
+
+mod command;
+mod history;
+mod insts;
+mod laws;
+mod lines;
+mod look;
+mod made;
+mod modules;
+mod netlists;
+mod nets;
+mod number;
+mod observers;
+mod put;
+mod read;
+mod reports;
+mod resolving;
+mod settings;
+mod sources;
+mod spots;
+mod text;
+mod word;
+
+pub use command::{BitWord, Command};
+pub use laws::{each_command_reads, each_line_reads, each_word_reads};
+pub use lines::{LINE_LIMIT, Line, Script, ScriptFault, script};
+pub use resolving::resolve;
+pub use text::text_of;
