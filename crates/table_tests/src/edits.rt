@@ -1,5 +1,4 @@
 mod asks;
-mod designs;
 mod done;
 mod limits;
 mod opening;
@@ -15,6 +14,7 @@ use designs::{Design, state_of};
 use edit_rules::{Judged, apply_plain, is_good_state, judge};
 use emh_base::{By, Change, NoMemory, Object, Refusal, Rule, State, TryCopy};
 use same::{same_conns, same_state};
+use samples::designs;
 use std::alloc::Global;
 use std::process::Abort;
 

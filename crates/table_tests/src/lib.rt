@@ -5,6 +5,7 @@
 #[cfg(test)]
 mod edits;
 #[cfg(test)]
-mod modules;
-#[cfg(test)]
 mod tables;
+
+#[cfg(test)]
+use samples::modules;
