@@ -7,8 +7,8 @@ use std::alloc::Global;
 use std::marker::Model;
 use timeline::{History, NoMemory, Swap};
 
-/// An index from pairs of a module's and a name's number to keys, whose changes are recorded, so that whole records are undone and
-/// redone. All calls but `reserve` take no memory.
+/// An index from pairs of a module's and a name's number to keys, whose changes are recorded, so that whole records are
+/// undone and redone. All calls but `reserve` take no memory.
 #[derive(Drop)]
 pub struct Index {
     names: Names,
@@ -68,7 +68,8 @@ impl Index {
         self.history.begin();
     }
 
-    /// Puts a pair into the index. Condition: a record is open, the pair is absent, and there are a spare row and a spare write.
+    /// Puts a pair into the index. Condition: a record is open, the pair is absent, and there are a spare row and a
+    /// spare write.
     pub fn put(&mut self, module: u32, name: usize, key: u32)
         requires open { self.old.is_open ≡ true }
         requires spare { 0 < self.old.spare_writes }
@@ -111,7 +112,8 @@ impl Index {
         self.names.get((module, name))
     }
 
-    /// Closes the record, and remembers the map where it began. What was taken back is forgotten. Condition: a record is open.
+    /// Closes the record, and remembers the map where it began. What was taken back is forgotten. Condition: a record
+    /// is open.
     pub fn commit(&mut self)
         requires { self.old.is_open ≡ true }
         ensures committed { self.new ≡ record self.old {

@@ -16,7 +16,8 @@ pub struct Row {
     pub mentions: usize,
 }
 
-/// Names in an index map. A name that is not live keeps its entry while an swap names it, so that it comes back without memory.
+/// Names in an index map. A name that is not live keeps its entry while an swap names it, so that it comes back without
+/// memory.
 #[derive(Drop)]
 pub struct Names {
     rows: IndexMap<(u32, usize), Row>,

@@ -1,7 +1,7 @@
 ghost use Rattle.named_tables.specs.Law.{EachCycleByNames, EachFlatNetlistByNames};
 
-/// The law of flat netlists: two sound tables that are the same by names have the same flat netlist, at tops of one name.
-/// The contract is what this is for.
+/// The law of flat netlists: two sound tables that are the same by names have the same flat netlist, at tops of one
+/// name. The contract is what this is for.
 pub fn each_flat_netlist_by_names()
     ensures { EachFlatNetlistByNames }
 {}

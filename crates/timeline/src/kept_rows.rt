@@ -6,8 +6,8 @@ ghost use Rattle.timeline.specs.Maps.{put, one_at, IsKeyOrder};
 use crate::memory::NoMemory;
 use crate::steps::Swap;
 
-/// Rows under keys. A row has a value while it is live, and a count of the kept swaps that name its key. It stays while it has
-/// either, so its key is not given again before.
+/// Rows under keys. A row has a value while it is live, and a count of the kept swaps that name its key. It stays while
+/// it has either, so its key is not given again before.
 pub trait KeptRows<K: Copy, V: Copy> {
     ghost order: { K → K → Ordering };
 

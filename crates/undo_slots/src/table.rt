@@ -8,8 +8,8 @@ use std::alloc::Global;
 use std::marker::Model;
 use timeline::{History, NoMemory, Swap};
 
-/// A table of rows under keys that it picks, whose changes are recorded, so that whole records are undone and redone. All calls but
-/// `reserve` take no memory.
+/// A table of rows under keys that it picks, whose changes are recorded, so that whole records are undone and redone.
+/// All calls but `reserve` take no memory.
 #[derive(Drop)]
 pub struct Table<T: Copy> {
     slots: Slots<T>,
@@ -70,7 +70,8 @@ impl<T: Copy> Table<T> {
         self.history.begin();
     }
 
-    /// Adds a row, at a key that no map of the table has. Condition: a record is open, and there are a spare row and a spare write.
+    /// Adds a row, at a key that no map of the table has. Condition: a record is open, and there are a spare row and a
+    /// spare write.
     pub fn add(&mut self, value: T) -> usize
         requires open { self.old.is_open ≡ true }
         requires spare { 0 < self.old.spare_writes }
@@ -116,7 +117,8 @@ impl<T: Copy> Table<T> {
         self.history.write(&mut self.slots, key, None);
     }
 
-    /// Closes the record, and remembers the map where it began. What was taken back is forgotten. Condition: a record is open.
+    /// Closes the record, and remembers the map where it began. What was taken back is forgotten. Condition: a record
+    /// is open.
     pub fn commit(&mut self)
         requires { self.old.is_open ≡ true }
         ensures committed { self.new ≡ record self.old {

@@ -52,9 +52,9 @@ impl From<ElabFault> for ReadFault {
     }
 }
 
-/// A library with the modules of a file after it, or why there is no such table: the fault of the first step that fails.
-/// All modules of the file are leaves where `all_leaf` is true, and else those that are marked as cells. The file has at
-/// most 67,108,864 bytes. It takes time n log n.
+/// A library with the modules of a file after it, or why there is no such table: the fault of the first step that
+/// fails. All modules of the file are leaves where `all_leaf` is true, and else those that are marked as cells. The
+/// file has at most 67,108,864 bytes. It takes time n log n.
 pub fn read_netlist(
     alloc: Global,
     library: &Plain,
