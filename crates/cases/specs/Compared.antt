@@ -1,8 +1,10 @@
-use Rattle.std.specs.Prelude.{◌≡◌, ℕ, ◌+◌, ◌<◌, ◌==◌, List, [], ◌∷◌, if◌then◌else◌}
-use Rattle.emh_io.specs.Files.{Files}
+use Rattle.std.specs.Prelude.{◌≡◌, ℕ, ◌+◌, ◌<◌, ◌==◌, Bool, true, false, List, [], ◌∷◌, Option, Some, None, if◌then◌else◌, bytes_eq}
+use Rattle.std.specs.List.{list_all}
+use Rattle.emh_io.specs.Files.{Files, held}
+use Rattle.emh_io.specs.declared.held.Held.{Held}
 use Rattle.emh_shell.specs.Play.{Play}
 use Rattle.cases.specs.declared.verdict.Verdict.{Verdict}
-use Rattle.cases.specs.declared.verdict.Verdict.TheVariants.{Passed, OtherText, OtherStatus}
+use Rattle.cases.specs.declared.verdict.Verdict.TheVariants.{Passed, OtherText, OtherStatus, OtherFiles}
 
 -- how many whole lines two texts have in common at their beginning
 abbrev pub common_lines : List ℕ → List ℕ → ℕ
@@ -18,12 +20,26 @@ IsVerdict wanted wanted_status text status (OtherText lines ended) =
     (text ≡ wanted → ⊥) × (lines ≡ common_lines wanted text) × (ended ≡ status)
 IsVerdict wanted wanted_status text status (OtherStatus ended) =
     (text ≡ wanted) × (status ≡ wanted_status → ⊥) × (ended ≡ status)
+IsVerdict wanted wanted_status text status (OtherFiles ended) = ⊥
+
+abbrev pub are_bytes : Option (List ℕ) → List ℕ → Bool
+are_bytes None bytes = false
+are_bytes (Some found) bytes = bytes_eq found bytes
+
+-- the file is among the files as it stands
+abbrev pub is_held : Files → Held → Bool
+is_held files file = are_bytes (held files file.name) file.bytes
+
+abbrev pub are_held : Files → List Held → Bool
+are_held files after = list_all (is_held files) after
 
 -- What a verdict says of the plain session, where a script ran to its end: a case that passed is what that session prints
--- and ends with, and one that differs isn't.
-abbrev pub IsTrueOf : Files → List (List ℕ) → List ℕ → ℕ → Verdict → Type 0
-IsTrueOf files words wanted wanted_status Passed = wanted_status < 3 → Play files words wanted wanted_status
-IsTrueOf files words wanted wanted_status (OtherText lines ended) =
+-- and ends with, and one that differs isn't. No command stores a file yet, so the files after a run are those before it.
+abbrev pub IsTrueOf : Files → List (List ℕ) → List ℕ → ℕ → List Held → Verdict → Type 0
+IsTrueOf files words wanted wanted_status after Passed =
+    (wanted_status < 3 → Play files words wanted wanted_status) × (are_held files after ≡ true)
+IsTrueOf files words wanted wanted_status after (OtherText lines ended) =
     ended < 3 → Play files words wanted wanted_status → ⊥
-IsTrueOf files words wanted wanted_status (OtherStatus ended) =
+IsTrueOf files words wanted wanted_status after (OtherStatus ended) =
     ended < 3 → Play files words wanted wanted_status → ⊥
+IsTrueOf files words wanted wanted_status after (OtherFiles ended) = are_held files after ≡ false

@@ -5,7 +5,7 @@ use crate::fault::CaseFault;
 use crate::head::{Head, read_head};
 use crate::marks::unmarked;
 use crate::section::Section;
-use crate::trying::Faults;
+use crate::trying::{Faults, Wanted};
 use emh_base::List;
 use emh_io::Held;
 use std::alloc::{AllocError, Global};
@@ -18,13 +18,31 @@ pub struct File<'a> {
     has_marks: bool,
 }
 
+impl<'a> File<'a> {
+    fn new(name: &'a str, text: &'a [u8], has_marks: bool) -> File<'a> {
+        File {
+            name,
+            text,
+            has_marks,
+        }
+    }
+
+    fn bytes(&self, alloc: Global) -> Result<List<u8>, CaseFault> {
+        if self.has_marks {
+            return unmarked(alloc, self.text);
+        }
+        Ok(List::from_slice(alloc, self.text)?)
+    }
+}
+
 /// What a case has so far.
 #[derive(Drop)]
 pub struct Case<'a> {
     alloc: Global,
     files: Vec<File<'a>>,
-    /// What is to be printed, and the number of its first line in the case file.
-    pub prints: &'a [u8],
+    after: Vec<File<'a>>,
+    prints: &'a [u8],
+    /// The number of the first line in the case file of what is to be printed.
     pub prints_line: u64,
     words: Option<&'a str>,
     most: Option<u32>,
@@ -38,6 +56,7 @@ impl<'a> Case<'a> {
         Case {
             alloc,
             files: Vec::new(alloc),
+            after: Vec::new(alloc),
             prints: b"",
             prints_line: 0,
             words: None,
@@ -50,6 +69,7 @@ impl<'a> Case<'a> {
     /// Begins the next case of a case file: its files are those so far.
     pub fn go_on(&mut self) {
         self.prints = b"";
+        self.after.clear();
         self.words = None;
         self.most = None;
         self.fails_fetch = 0;
@@ -59,8 +79,9 @@ impl<'a> Case<'a> {
     /// Takes a section, and answers the status where it ends the case.
     pub fn take(&mut self, section: Section<'a>) -> Result<Option<u8>, CaseFault> {
         match read_head(section.head).ok_or(CaseFault::NoSection)? {
-            Head::File(name) => self.put_file(name, section.body, false)?,
-            Head::Bytes(name) => self.put_file(name, section.body, true)?,
+            Head::File(name) => put(&mut self.files, File::new(name, section.body, false))?,
+            Head::Bytes(name) => put(&mut self.files, File::new(name, section.body, true))?,
+            Head::After(name) => put(&mut self.after, File::new(name, section.body, false))?,
             Head::Prints => {
                 self.prints = section.body;
                 self.prints_line = section.line.saturating_add(1);
@@ -74,32 +95,18 @@ impl<'a> Case<'a> {
         Ok(None)
     }
 
-    /// Puts a file among the files, in place of one of its name.
-    fn put_file(
-        &mut self,
-        name: &'a str,
-        text: &'a [u8],
-        has_marks: bool,
-    ) -> Result<(), AllocError> {
-        let file = File {
-            name,
-            text,
-            has_marks,
-        };
-        match self.files.iter().position(|one| one.name == name) {
-            Some(at) => self.files[at] = file,
-            None => self.files.push(file)?,
-        }
-        Ok(())
+    /// The files, for a shelf.
+    pub fn files(&self) -> Result<List<Held>, CaseFault> {
+        held_of(self.alloc, self.files.as_slice())
     }
 
-    /// The files, for a shelf.
-    pub fn held(&self) -> Result<List<Held>, CaseFault> {
-        let mut files = List::new(self.alloc);
-        for file in self.files.as_slice() {
-            files.push(held_of(self.alloc, file)?)?;
-        }
-        Ok(files)
+    /// What is wanted of the case, which is to end with that status.
+    pub fn wanted(&self, status: u8) -> Result<Wanted<'a>, CaseFault> {
+        Ok(Wanted {
+            text: self.prints,
+            status,
+            files: held_of(self.alloc, self.after.as_slice())?,
+        })
     }
 
     /// The words of the command line: `script`, where the case has none.
@@ -125,15 +132,24 @@ impl<'a> Case<'a> {
     }
 }
 
-fn held_of(alloc: Global, file: &File<'_>) -> Result<Held, CaseFault> {
-    Ok(Held {
-        name: List::from_slice(alloc, file.name.as_bytes())?,
-        bytes: if file.has_marks {
-            unmarked(alloc, file.text)?
-        } else {
-            List::from_slice(alloc, file.text)?
-        },
-    })
+/// Puts a file among files, in place of one of its name.
+fn put<'a>(files: &mut Vec<File<'a>>, file: File<'a>) -> Result<(), AllocError> {
+    match files.iter().position(|one| one.name == file.name) {
+        Some(at) => files[at] = file,
+        None => files.push(file)?,
+    }
+    Ok(())
+}
+
+fn held_of(alloc: Global, files: &[File<'_>]) -> Result<List<Held>, CaseFault> {
+    let mut held = List::new(alloc);
+    for file in files {
+        held.push(Held {
+            name: List::from_slice(alloc, file.name.as_bytes())?,
+            bytes: file.bytes(alloc)?,
+        })?;
+    }
+    Ok(held)
 }
 
 /// A plan in which one call fails, counted from 1, or none at 0.

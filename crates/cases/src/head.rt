@@ -8,6 +8,8 @@ pub enum Head<'a> {
     File(&'a str),
     /// A file of that name follows, with marks.
     Bytes(&'a str),
+    /// A file of that name follows, as it is to be after the run.
+    After(&'a str),
     /// What is to be printed follows.
     Prints,
     /// The words of the command line.
@@ -32,6 +34,7 @@ pub fn read_head(line: &[u8]) -> Option<Head<'_>> {
         "words" => Some(Head::Words(rest)),
         "file" => Some(Head::File(rest)),
         "bytes" => Some(Head::Bytes(rest)),
+        "after" => Some(Head::After(rest)),
         "status" => Some(Head::Status(rest.parse::<u8>().ok()?)),
         "takes" => Some(Head::Takes(rest.parse::<u32>().ok().filter(|most| *most > 0)?)),
         "fails" => read_fails(rest),

@@ -1,7 +1,7 @@
 //! Files that aren't plain text, by marks: `\n` is a newline, `\\` a backslash, `\xHH` the byte of
 //! two lower-case hexadecimal digits, and `\*COUNT*` stands before a byte that comes so many times.
 //! The file's own newlines don't count.
-ghost use Rattle.std.specs.Prelude.{◌<◌, ◌≤◌, length, IfSome};
+ghost use Rattle.std.specs.Prelude.{◌<◌, length, IfSome};
 
 use crate::fault::CaseFault;
 use emh_base::List;

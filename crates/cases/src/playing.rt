@@ -35,13 +35,14 @@ pub fn play_cases<R: Runtime + AllocGlobal>(
 }
 
 fn play_case(alloc: Global, case: &Case<'_>, status: u8) -> Result<Verdict, CaseFault> {
-    let files = case.held()?;
+    let files = case.files()?;
     if !are_distinct(files.as_slice()) {
         return Err(CaseFault::NoSection);
     }
     let words = case.words()?;
     let faults = case.faults()?;
-    Ok(try_case(alloc, files, words.as_slice(), faults, case.prints, status))
+    let wanted = case.wanted(status)?;
+    Ok(try_case(alloc, files, words.as_slice(), faults, &wanted))
 }
 
 /// Counts a case, and prints where it differs. The place is a line of the case file.
@@ -66,6 +67,9 @@ fn tell<R: Runtime + AllocGlobal>(
         }
         Ok(Verdict::OtherStatus { status }) => {
             println!(rt; "{path}:{line}: it ends with {status}")?;
+        }
+        Ok(Verdict::OtherFiles { status }) => {
+            println!(rt; "{path}:{line}: a file is another one afterwards; it ends with {status}")?;
         }
         Err(CaseFault::NoSection) => {
             println!(rt; "{path}:{line}: no section begins so, or it has a mark that there isn't")?;

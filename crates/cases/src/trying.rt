@@ -1,6 +1,6 @@
 ghost use Rattle.std.specs.Prelude.{◌≡◌, ◌≤◌, map, IsTrue, string_bytes};
 ghost use Rattle.emh_io.specs.Held.{files_of, are_distinct};
-ghost use Rattle.cases.specs.Compared.{IsTrueOf};
+ghost use Rattle.cases.specs.Compared.{is_held, are_held, IsTrueOf};
 
 use crate::verdict::{Verdict, compare};
 use emh_base::List;
@@ -17,23 +17,52 @@ pub struct Faults {
     pub most: u32,
 }
 
-/// Runs a script over files and says whether it prints the wanted text and ends with the wanted
-/// status.
+/// What a script is to print, the status it is to end with, and files as they are to be afterwards.
+#[derive(Debug, Drop)]
+pub struct Wanted<'a> {
+    pub text: &'a [u8],
+    pub status: u8,
+    pub files: List<Held>,
+}
+
+/// Runs a script over files and says whether it prints the wanted text, ends with the wanted status
+/// and leaves the wanted files.
 pub fn try_case(
     alloc: Global,
     files: List<Held>,
     words: &[String],
     faults: Faults,
-    wanted: &[u8],
-    wanted_status: u8,
+    wanted: &Wanted<'_>,
 ) -> Verdict
     requires distinct { IsTrue (are_distinct (files_of files)) }
     requires most { 1 ≤ faults.most }
-    ensures { IsTrueOf (files_of files) (map string_bytes words.now) wanted.now wanted_status result }
+    ensures { IsTrueOf (files_of files) (map string_bytes words.now)
+        wanted.now.text.now wanted.now.status wanted.now.files result }
 {
     each_session_once();
     let mut shelf = MemShelf::new(alloc, files, faults.fetches);
     let mut out = MemSink::new(alloc, faults.most, faults.puts);
     let status = run(alloc, words, &mut shelf, &mut out);
-    compare(wanted, wanted_status, out.bytes(), status)
+    match compare(wanted.text, wanted.status, out.bytes(), status) {
+        Verdict::Passed if !are_held(&shelf, wanted.files.as_slice()) => {
+            Verdict::OtherFiles { status }
+        }
+        verdict => verdict,
+    }
+}
+
+/// Whether a shelf holds each of these files as it stands.
+fn are_held(shelf: &MemShelf, files: &[Held]) -> bool
+    ensures { result ≡ are_held shelf.now.files files.now }
+{
+    files.iter().all(|file| is_held(shelf, file))
+}
+
+fn is_held(shelf: &MemShelf, file: &Held) -> bool
+    ensures { result ≡ is_held shelf.now.files file.now }
+{
+    match shelf.held(file.name.as_slice()) {
+        Some(bytes) => bytes == file.bytes.as_slice(),
+        None => false,
+    }
 }

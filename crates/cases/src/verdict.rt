@@ -1,4 +1,4 @@
-ghost use Rattle.std.specs.Prelude.{◌≡◌, ◌≤◌, length};
+ghost use Rattle.std.specs.Prelude.{◌≡◌};
 ghost use Rattle.cases.specs.Compared.{common_lines, IsVerdict};
 
 /// What is said of a case.
@@ -11,6 +11,9 @@ pub enum Verdict {
     OtherText { lines: usize, status: u8 },
     /// It prints the wanted text, and ends with that other status.
     OtherStatus { status: u8 },
+    /// It prints the wanted text and ends with the wanted status, which is this one, and a file is
+    /// not what it was to be afterwards.
+    OtherFiles { status: u8 },
 }
 
 /// Compares what a script printed and how it ended with what was wanted.

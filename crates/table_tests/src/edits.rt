@@ -35,11 +35,15 @@ fn carried(rt: &impl Abort, alloc: Global, state: &mut State, ask: Ask) -> Resul
     assert!(rt; good);
     let judged = judge(alloc, state, &edit).err();
     let told = apply_plain(state, &edit);
-    match &told {
-        Ok(_) => assert_eq!(rt; judged, None),
-        Err(refused) => assert_eq!(rt; judged, Some(*refused)),
-    }
+    assert!(rt; refusal_of(&told) == judged);
     told
+}
+
+fn refusal_of(told: &Result<Change, Judged>) -> Option<Judged> {
+    match told {
+        Ok(_) => None,
+        Err(refused) => Some(*refused),
+    }
 }
 
 /// A design after some edits, which are done.
