@@ -12,7 +12,7 @@ use Rattle.emh_base.specs.declared.plain.Plain.{Plain}
 use Rattle.flatten_rules.specs.Lookup.{module_of, insts_of, width}
 use Rattle.flatten_rules.specs.Limits.{bits_of}
 use Rattle.flatten_rules.specs.Extent.{total, height, greatest_by}
-use Rattle.edit_rules.specs.Changes.{with_module}
+use Rattle.flatten_rules.specs.Changes.{with_module}
 use Rattle.edit_rules.specs.Insts.{with_inst_alone, with_new_inst}
 use Rattle.edit_rules.specs.Limits.{is_too_deep, has_too_many_occurrences, has_too_many_bits, leads_to}
 use Rattle.edit_rules.specs.Outline.{bare_inst, bare_net, bare, outline, IsAlike}

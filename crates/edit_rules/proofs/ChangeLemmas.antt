@@ -5,7 +5,7 @@ use Rattle.emh_base.specs.declared.plain.PModule.{PModule}
 use Rattle.emh_base.specs.declared.plain.Plain.{Plain}
 use Rattle.flatten_rules.specs.Lookup.{module_of}
 use Rattle.flatten_rules.proofs.Places.{position-none, find-from_none}
-use Rattle.edit_rules.specs.Changes.{with_module}
+use Rattle.flatten_rules.specs.Changes.{with_module}
 
 module _ (id : ModId) where
   abbrev is : PModule → Bool

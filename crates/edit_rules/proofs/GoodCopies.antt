@@ -23,7 +23,7 @@ use Rattle.flatten_rules.specs.Sound.{FitPorts, HasMaster, IsSoundModule}
 use Rattle.flatten_rules.proofs.Sound.{All-find, sound-module, master-there}
 use Rattle.flatten_rules.proofs.Walks.{id-of_found, found-own, find-own, find-passes, some-there}
 use Rattle.edit_rules.specs.Readers.{inst_in, master_of, master_id}
-use Rattle.edit_rules.specs.Changes.{with_insts}
+use Rattle.flatten_rules.specs.Changes.{with_insts}
 use Rattle.edit_rules.specs.Insts.{with_master, with_copy, uniquify, uniquify_rules}
 use Rattle.edit_rules.specs.Good.{IsGoodState}
 use Rattle.edit_rules.specs.Apply.{after}

@@ -27,7 +27,7 @@ use Rattle.flatten_rules.proofs.Places.{find-from_place}
 use Rattle.flatten_rules.proofs.Walks.{find-own, find-passes, same-some}
 use Rattle.edit_rules.specs.Check.{Check, first_broken}
 use Rattle.edit_rules.specs.Readers.{is_name_in, inst_in, net_in, master_of, master_id, port_place}
-use Rattle.edit_rules.specs.Changes.{with_insts, with_inst, with_conns}
+use Rattle.flatten_rules.specs.Changes.{with_insts, with_inst, with_conns}
 use Rattle.edit_rules.specs.Insts.{rename_inst, rename_inst_rules, delete_inst, delete_inst_rules, connect, connect_rules, disconnect, disconnect_rules, with_conn, set_conn, source_rules, width_rules}
 use Rattle.edit_rules.specs.Good.{IsGoodState}
 use Rattle.edit_rules.specs.Apply.{after}

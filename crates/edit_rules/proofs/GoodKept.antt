@@ -20,7 +20,7 @@ use Rattle.flatten_rules.specs.Sound.{IsSource, HasMaster, IsCell, IsSoundModule
 use Rattle.flatten_rules.proofs.Sound.{sound-module}
 use Rattle.flatten_rules.proofs.Walks.{found-own}
 use Rattle.edit_rules.specs.Good.{IsGoodState}
-use Rattle.edit_rules.specs.Changes.{with_module}
+use Rattle.flatten_rules.specs.Changes.{with_module}
 use Rattle.edit_rules.proofs.GoodWalks.{AreBelow, IsBelow}
 use Rattle.edit_rules.proofs.GoodTables.{SamePorts, same_ports-own, KeepsConn, KeepsMasters, master_kept, module_kept, Same, below-own, IsOwn, masters-mapped, cells-mapped, inner-mapped, below-mapped, within-mapped, sound-mapped, map-through, changed, changed-keeps, each-changed}
 use Rattle.edit_rules.proofs.GoodChecks.{Opened}

@@ -27,7 +27,7 @@ use Rattle.flatten_rules.proofs.Sound.{All-find, sound-module}
 use Rattle.flatten_rules.proofs.Walks.{id-of_found, found-own, within-by_cases, walks-within}
 use Rattle.edit_rules.specs.Readers.{is_name_in, inst_in, master_of, same_dir, same_range, same_net, same_port, same_ports}
 use Rattle.edit_rules.specs.Limits.{is_too_deep}
-use Rattle.edit_rules.specs.Changes.{with_insts}
+use Rattle.flatten_rules.specs.Changes.{with_insts}
 use Rattle.edit_rules.specs.Insts.{create_inst, create_inst_rules, with_new_inst, new_inst, all_open, with_master, resize_rules}
 use Rattle.edit_rules.specs.Good.{IsGoodState}
 use Rattle.edit_rules.specs.Apply.{after}

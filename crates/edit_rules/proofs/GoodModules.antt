@@ -20,7 +20,7 @@ use Rattle.flatten_rules.specs.Limits.{bits_of, IsWithin}
 use Rattle.flatten_rules.specs.Design.{IsInner}
 use Rattle.flatten_rules.specs.Sound.{HasMaster, IsSoundModule, IsSound}
 use Rattle.edit_rules.specs.Readers.{users}
-use Rattle.edit_rules.specs.Changes.{with_last_module}
+use Rattle.flatten_rules.specs.Changes.{with_last_module}
 use Rattle.edit_rules.specs.Modules.{create_module, create_module_rules, empty_module, delete_module, delete_module_rules}
 use Rattle.edit_rules.specs.Good.{IsGoodState}
 use Rattle.edit_rules.specs.Apply.{after}

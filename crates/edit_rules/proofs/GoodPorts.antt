@@ -30,7 +30,7 @@ use Rattle.flatten_rules.proofs.Places.{find-from_place, found-nowhere}
 use Rattle.flatten_rules.proofs.Walks.{find-passes, id-of_found, id-of_net, some-there}
 use Rattle.edit_rules.specs.Readers.{port_in, port_place, is_net_used}
 use Rattle.edit_rules.specs.Limits.{has_too_many_bits}
-use Rattle.edit_rules.specs.Changes.{with_module, at_instances, with_insts, with_conns}
+use Rattle.flatten_rules.specs.Changes.{with_module, at_instances, with_insts, with_conns}
 use Rattle.edit_rules.specs.Nets.{create_port, create_port_rules, with_port, with_net, new_net, delete_port, delete_port_rules, without_port, without_conn}
 use Rattle.edit_rules.specs.Good.{IsGoodState}
 use Rattle.edit_rules.specs.Apply.{after}

@@ -17,7 +17,7 @@ use Rattle.flatten_rules.specs.Limits.{bits_of}
 use Rattle.flatten_rules.specs.Domains.{is_leaf}
 use Rattle.flatten_rules.specs.Extent.{total}
 use Rattle.flatten_rules.proofs.Walks.{id-of_found}
-use Rattle.edit_rules.specs.Changes.{with_module, with_insts, at_instances}
+use Rattle.flatten_rules.specs.Changes.{with_module, with_insts, at_instances}
 use Rattle.edit_rules.specs.Nets.{with_net, with_port, create_net, create_port}
 use Rattle.edit_rules.specs.Limits.{has_too_many_bits}
 use Rattle.edit_rules.specs.Facts.{totals, times}

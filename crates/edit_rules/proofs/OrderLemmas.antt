@@ -15,7 +15,7 @@ use Rattle.flatten_rules.specs.Sound.{IsSound, IsSoundModule}
 use Rattle.flatten_rules.proofs.Sound.{sound-module}
 use Rattle.edit_rules.specs.Order.{InOrder}
 use Rattle.edit_rules.specs.Readers.{master_of, inst_in}
-use Rattle.edit_rules.specs.Changes.{with_module, with_inst, with_insts, with_last_module, at_instances}
+use Rattle.flatten_rules.specs.Changes.{with_module, with_inst, with_insts, with_last_module, at_instances}
 use Rattle.edit_rules.specs.Insts.{with_copy}
 use Rattle.edit_rules.specs.Apply.{table_after}
 

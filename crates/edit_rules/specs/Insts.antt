@@ -1,44 +1,23 @@
--- The edits of instances: for each the rules in the order in which they are looked at, and the table after it.
-use Rattle.std.specs.Prelude.{ℕ, ◌+◌, ◌==◌, false, not, ◌&&◌, nat_le, List, [], ◌∷◌, ◌++◌, map, length, filter, flat_map, slice_set, Option, Some, None}
+-- The edits of instances: for each the rules in the order in which they are looked at. The table after each is that of
+-- InstChanges.
+use Rattle.std.specs.Prelude.{ℕ, ◌==◌, not, ◌&&◌, nat_le, List, [], ◌∷◌, ◌++◌, length, flat_map}
 use Rattle.emh_base.specs.declared.ids.ModId.{ModId}
 use Rattle.emh_base.specs.declared.ids.NetId.{NetId}
 use Rattle.emh_base.specs.declared.ids.InstId.{InstId}
 use Rattle.emh_base.specs.declared.plain.Src.{Src}
 use Rattle.emh_base.specs.declared.plain.Src.TheVariants.{Tie0, Tie1, Bit}
-use Rattle.emh_base.specs.declared.plain.Conn.{Conn}
-use Rattle.emh_base.specs.declared.plain.Conn.TheVariants.{Open, Bits}
-use Rattle.emh_base.specs.declared.plain.PInst.{PInst}
-use Rattle.emh_base.specs.declared.plain.PModule.{PModule}
-use Rattle.emh_base.specs.declared.plain.Plain.{Plain}
 use Rattle.emh_base.specs.declared.state.State.{State}
 use Rattle.emh_base.specs.declared.rule.Rule.TheVariants.{NoSuchModule, NoSuchNet, NoSuchInst, NoSuchPort, NameTaken, IsCell, Recursive, WidthMismatch, BitOutOfRange, TooManyOccurrences, NotLeaf, PortsDiffer, AlreadyOpen, NotShared, TooDeep, TooManyBits, TooManyObjects}
 use Rattle.emh_base.specs.declared.rule.Object.TheVariants.{Module, Net, Inst, Port, NewName}
 use Rattle.flatten_rules.specs.Lookup.{module_of, width_of}
-use Rattle.flatten_rules.specs.Domains.{is_leaf, ports_of}
+use Rattle.flatten_rules.specs.Domains.{is_leaf}
 use Rattle.edit_rules.specs.Check.{Check, check}
-use Rattle.edit_rules.specs.Readers.{is_module, next_inst_of, lacks_room, is_name_in, is_module_name, is_net, is_port, is_inst, net_in, inst_in, master_id, master_of, users, port_place, conn_of, is_connected, same_ports}
+use Rattle.edit_rules.specs.Readers.{is_module, next_inst_of, lacks_room, is_name_in, is_module_name, is_net, is_port, is_inst, net_in, inst_in, master_id, master_of, users, conn_of, is_connected, same_ports}
 use Rattle.edit_rules.specs.Limits.{is_too_deep, has_too_many_occurrences, has_too_many_bits, leads_to}
-use Rattle.edit_rules.specs.Changes.{with_module, with_inst, with_last_module, with_conns}
 use Rattle.edit_rules.specs.Modules.{common}
+pub use Rattle.flatten_rules.specs.InstChanges.{all_open, new_inst, with_inst_alone, with_new_inst, create_inst, delete_inst, set_conn, with_conn, connect, disconnect, rename_inst, with_master, with_copy, uniquify}
 
 -- CreateInst: a new instance, all ports Open
-
-abbrev pub all_open : Option PModule → List Conn
-all_open master = map (λ port. Open) (ports_of master)
-
-abbrev pub new_inst : ℕ → List ℕ → ModId → List Conn → PInst
-new_inst id name master conns = record { id = record { 0 = id }; name = name; master = master; conns = conns }
-
--- the module with an instance more, which stands last and has the counter's value as its id
-abbrev pub with_inst_alone : List ℕ → ModId → List Conn → PModule → PModule
-with_inst_alone name master conns m = record m { insts = m.insts ++ new_inst m.next_inst name master conns ∷ [] }
-
--- and the counter is raised
-abbrev pub with_new_inst : List ℕ → ModId → List Conn → PModule → PModule
-with_new_inst name master conns m = record (with_inst_alone name master conns m) { next_inst = m.next_inst + 1 }
-
-abbrev pub create_inst : Plain → ModId → List ℕ → ModId → Plain
-create_inst M m name master = with_module M m (with_new_inst name master (all_open (module_of M master)))
 
 abbrev pub create_inst_rules : State → ModId → List ℕ → ModId → List Check
 create_inst_rules S m name master =
@@ -54,10 +33,6 @@ create_inst_rules S m name master =
 
 -- DeleteInst: removes it with its connections
 
-abbrev pub delete_inst : Plain → ModId → InstId → Plain
-delete_inst M m inst =
-    with_module M m (λ holder. record holder { insts = filter (λ other. not (other.id.0 == inst.0)) holder.insts })
-
 abbrev pub delete_inst_rules : State → ModId → InstId → List Check
 delete_inst_rules S m inst = common S m ++ check NoSuchInst (Inst m inst) (not (is_inst S.plain m inst)) ∷ []
 
@@ -69,19 +44,7 @@ names_port S m inst port =
     (not (is_port S.plain (master_id (inst_in S.plain m inst)) port))
     ∷ []
 
--- the connection of an instance at a port of its master is this one
-abbrev pub set_conn : Option ℕ → Conn → List Conn → List Conn
-set_conn None conn conns = conns
-set_conn (Some place) conn conns = slice_set conns place conn
-
-abbrev pub with_conn : Plain → ModId → InstId → NetId → Conn → Plain
-with_conn M m inst port conn =
-    with_inst M m inst (with_conns (set_conn (port_place (master_of M (inst_in M m inst)) port) conn))
-
 -- Connect: the port's connection becomes these bits, whatever it was
-
-abbrev pub connect : Plain → ModId → InstId → NetId → List Src → Plain
-connect M m inst port bits = with_conn M m inst port (Bits bits)
 
 -- what is looked at for a source: the net is there, and has the bit
 abbrev pub source_rules : State → ModId → Src → List Check
@@ -105,9 +68,6 @@ connect_rules S m inst port bits =
 
 -- Disconnect: the connection becomes Open
 
-abbrev pub disconnect : Plain → ModId → InstId → NetId → Plain
-disconnect M m inst port = with_conn M m inst port Open
-
 abbrev pub disconnect_rules : State → ModId → InstId → NetId → List Check
 disconnect_rules S m inst port =
     common S m ++ names_port S m inst port
@@ -117,9 +77,6 @@ disconnect_rules S m inst port =
 
 -- RenameInst: a new name
 
-abbrev pub rename_inst : Plain → ModId → InstId → List ℕ → Plain
-rename_inst M m inst name = with_inst M m inst (λ there. record there { name = name })
-
 abbrev pub rename_inst_rules : State → ModId → InstId → List ℕ → List Check
 rename_inst_rules S m inst name =
     common S m
@@ -128,9 +85,6 @@ rename_inst_rules S m inst name =
     ∷ []
 
 -- Resize: another leaf as master, with the same connections by position
-
-abbrev pub with_master : Plain → ModId → InstId → ModId → Plain
-with_master M m inst master = with_inst M m inst (λ there. record there { master = master })
 
 abbrev pub resize_rules : State → ModId → InstId → ModId → List Check
 resize_rules S m inst master =
@@ -144,15 +98,6 @@ resize_rules S m inst master =
     ∷ []
 
 -- Uniquify: a new module, an unlocked copy of the master; then the instance gets it as its master
-
-abbrev pub with_copy : Plain → Option PModule → List ℕ → Plain
-with_copy M None name = M
-with_copy M (Some m) name =
-    with_last_module M (record m { id = record { 0 = M.next_module }; name = name; locked = false })
-
-abbrev pub uniquify : Plain → ModId → InstId → List ℕ → Plain
-uniquify M m inst name =
-    with_master (with_copy M (master_of M (inst_in M m inst)) name) m inst (record { 0 = M.next_module })
 
 abbrev pub uniquify_rules : State → ModId → InstId → List ℕ → List Check
 uniquify_rules S m inst name =

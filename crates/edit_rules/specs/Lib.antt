@@ -1,7 +1,6 @@
 pub mod Check
 pub mod Readers
 pub mod Limits
-pub mod Changes
 pub mod Modules
 pub mod Nets
 pub mod Insts

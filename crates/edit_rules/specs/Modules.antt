@@ -1,8 +1,7 @@
--- The edits of modules: for each the rules in the order in which they are looked at, and the table after it.
-use Rattle.std.specs.Prelude.{ℕ, ◌==◌, Bool, false, not, nat_lt, List, [], ◌∷◌, ◌++◌, filter}
+-- The edits of modules: for each the rules in the order in which they are looked at. The table after each is that of
+-- ModuleChanges.
+use Rattle.std.specs.Prelude.{ℕ, ◌==◌, not, nat_lt, List, [], ◌∷◌, ◌++◌}
 use Rattle.emh_base.specs.declared.ids.ModId.{ModId}
-use Rattle.emh_base.specs.declared.plain.PModule.{PModule}
-use Rattle.emh_base.specs.declared.plain.Plain.{Plain}
 use Rattle.emh_base.specs.declared.state.State.{State}
 use Rattle.emh_base.specs.declared.rule.Rule.TheVariants.{NoSuchModule, NameTaken, ModuleInUse, IsTop, IsCell, Locked, TooManyObjects, SameLock}
 use Rattle.emh_base.specs.declared.rule.Object.TheVariants.{Module, NewName}
@@ -10,7 +9,7 @@ use Rattle.flatten_rules.specs.Lookup.{module_of}
 use Rattle.flatten_rules.specs.Domains.{is_leaf}
 use Rattle.edit_rules.specs.Check.{Check, check}
 use Rattle.edit_rules.specs.Readers.{is_module, is_locked, is_module_name, lacks_room, users}
-use Rattle.edit_rules.specs.Changes.{with_module, with_last_module}
+pub use Rattle.flatten_rules.specs.ModuleChanges.{empty_module, create_module, delete_module, rename_module, with_lock}
 
 -- what is looked at first in each edit inside a module
 abbrev pub common : State → ModId → List Check
@@ -28,22 +27,6 @@ create_module_rules S name =
     ∷ check TooManyObjects NewName (lacks_room S.plain.next_module 1)
     ∷ []
 
-abbrev pub empty_module : ℕ → List ℕ → PModule
-empty_module id name = record {
-  id = record { 0 = id };
-  name = name;
-  leaf = false;
-  locked = false;
-  nets = [];
-  ports = [];
-  insts = [];
-  next_net = 0;
-  next_inst = 0;
-}
-
-abbrev pub create_module : Plain → List ℕ → Plain
-create_module M name = with_last_module M (empty_module M.next_module name)
-
 -- DeleteModule: removes it with its content
 
 abbrev pub delete_module_rules : State → ModId → List Check
@@ -55,16 +38,10 @@ delete_module_rules S m =
     ∷ check ModuleInUse (Module m) (nat_lt 0 (users S.plain m))
     ∷ []
 
-abbrev pub delete_module : Plain → ModId → Plain
-delete_module M m = record M { modules = filter (λ other. not (other.id.0 == m.0)) M.modules }
-
 -- RenameModule: a new name
 
 abbrev pub rename_module_rules : State → ModId → List ℕ → List Check
 rename_module_rules S m name = common S m ++ check NameTaken NewName (is_module_name S.plain name) ∷ []
-
-abbrev pub rename_module : Plain → ModId → List ℕ → Plain
-rename_module M m name = with_module M m (λ holder. record holder { name = name })
 
 -- Lock and Unlock: the lock is set or cleared
 
@@ -81,6 +58,3 @@ unlock_rules S m =
     ∷ check IsCell (Module m) (is_leaf (module_of S.plain m))
     ∷ check SameLock (Module m) (not (is_locked (module_of S.plain m)))
     ∷ []
-
-abbrev pub with_lock : Plain → ModId → Bool → Plain
-with_lock M m locked = with_module M m (λ holder. record holder { locked = locked })

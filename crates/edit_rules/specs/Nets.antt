@@ -1,36 +1,21 @@
--- The edits of nets and ports: for each the rules in the order in which they are looked at, and the table after it.
-use Rattle.std.specs.Prelude.{ℕ, ◌+◌, ◌==◌, not, List, [], ◌∷◌, ◌++◌, map, filter, remove, Option, Some, None, if◌then◌else◌}
+-- The edits of nets and ports: for each the rules in the order in which they are looked at. The table after each is
+-- that of NetChanges.
+use Rattle.std.specs.Prelude.{ℕ, not, List, [], ◌∷◌, ◌++◌, Option}
 use Rattle.emh_base.specs.declared.ids.ModId.{ModId}
 use Rattle.emh_base.specs.declared.ids.NetId.{NetId}
 use Rattle.emh_base.specs.declared.plain.Dir.{Dir}
 use Rattle.emh_base.specs.declared.plain.Range.{Range}
-use Rattle.emh_base.specs.declared.plain.Conn.{Conn}
-use Rattle.emh_base.specs.declared.plain.Conn.TheVariants.{Open}
-use Rattle.emh_base.specs.declared.plain.PNet.{PNet}
-use Rattle.emh_base.specs.declared.plain.PModule.{PModule}
-use Rattle.emh_base.specs.declared.plain.Plain.{Plain}
 use Rattle.emh_base.specs.declared.state.State.{State}
 use Rattle.emh_base.specs.declared.rule.Rule.TheVariants.{NoSuchNet, NoSuchPort, NameTaken, NetInUse, RangeTooWide, NetIsPort, PortInUse, TooManyBits, TooManyObjects}
 use Rattle.emh_base.specs.declared.rule.Object.TheVariants.{Module, Net, Port, NewName}
 use Rattle.flatten_rules.specs.Lookup.{module_of}
 use Rattle.edit_rules.specs.Check.{Check, check}
-use Rattle.edit_rules.specs.Readers.{next_net_of, lacks_room, is_name_in, is_net, is_port, is_too_wide, port_place, is_port_used, is_net_used}
+use Rattle.edit_rules.specs.Readers.{next_net_of, lacks_room, is_name_in, is_net, is_port, is_too_wide, is_port_used, is_net_used}
 use Rattle.edit_rules.specs.Limits.{has_too_many_bits}
-use Rattle.edit_rules.specs.Changes.{with_module, at_instances, with_conns}
 use Rattle.edit_rules.specs.Modules.{common}
+pub use Rattle.flatten_rules.specs.NetChanges.{new_net, with_net, create_net, without_net, delete_net, with_port, create_port, without_port, without_conn, delete_port, renamed, rename_net}
 
 -- CreateNet: a new net
-
-abbrev pub new_net : ℕ → List ℕ → Option Range → PNet
-new_net id name range = record { id = record { 0 = id }; name = name; range = range }
-
--- the module with a net more, which stands last and has the counter's value as its id
-abbrev pub with_net : List ℕ → Option Range → PModule → PModule
-with_net name range m =
-    record m { nets = m.nets ++ new_net m.next_net name range ∷ []; next_net = m.next_net + 1 }
-
-abbrev pub create_net : Plain → ModId → List ℕ → Option Range → Plain
-create_net M m name range = with_module M m (with_net name range)
 
 abbrev pub create_net_rules : State → ModId → List ℕ → Option Range → List Check
 create_net_rules S m name range =
@@ -43,12 +28,6 @@ create_net_rules S m name range =
 
 -- DeleteNet: removes it
 
-abbrev pub without_net : NetId → PModule → PModule
-without_net net m = record m { nets = filter (λ other. not (other.id.0 == net.0)) m.nets }
-
-abbrev pub delete_net : Plain → ModId → NetId → Plain
-delete_net M m net = with_module M m (without_net net)
-
 abbrev pub delete_net_rules : State → ModId → NetId → List Check
 delete_net_rules S m net =
     common S m
@@ -58,14 +37,6 @@ delete_net_rules S m net =
     ∷ []
 
 -- CreatePort: a new net and a last port; each instance of the module gets Open there, as its last connection
-
-abbrev pub with_port : List ℕ → Dir → Option Range → PModule → PModule
-with_port name dir range m =
-    record (with_net name range m) { ports = m.ports ++ record { net = record { 0 = m.next_net }; dir = dir } ∷ [] }
-
-abbrev pub create_port : Plain → ModId → List ℕ → Dir → Option Range → Plain
-create_port M m name dir range =
-    at_instances (with_module M m (with_port name dir range)) m (with_conns (λ conns. conns ++ Open ∷ []))
 
 abbrev pub create_port_rules : State → ModId → List ℕ → Dir → Option Range → List Check
 create_port_rules S m name dir range =
@@ -78,18 +49,6 @@ create_port_rules S m name dir range =
 
 -- DeletePort: removes the port, its net, and the connection at its place in each instance of the module
 
-abbrev pub without_port : NetId → PModule → PModule
-without_port port m =
-    record (without_net port m) { ports = filter (λ other. not (other.net.0 == port.0)) m.ports }
-
-abbrev pub without_conn : Option ℕ → List Conn → List Conn
-without_conn None conns = conns
-without_conn (Some place) conns = remove conns place
-
-abbrev pub delete_port : Plain → ModId → NetId → Plain
-delete_port M m port =
-    at_instances (with_module M m (without_port port)) m (with_conns (without_conn (port_place (module_of M m) port)))
-
 abbrev pub delete_port_rules : State → ModId → NetId → List Check
 delete_port_rules S m port =
     common S m
@@ -99,14 +58,6 @@ delete_port_rules S m port =
     ∷ []
 
 -- RenameNet: a new name, of the port too
-
-abbrev pub renamed : List ℕ → PNet → PNet
-renamed name net = record net { name = name }
-
-abbrev pub rename_net : Plain → ModId → NetId → List ℕ → Plain
-rename_net M m net name =
-    with_module M m
-    (λ holder. record holder { nets = map (λ other. if other.id.0 == net.0 then renamed name other else other) holder.nets })
 
 abbrev pub rename_net_rules : State → ModId → NetId → List ℕ → List Check
 rename_net_rules S m net name =

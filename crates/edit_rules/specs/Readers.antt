@@ -1,5 +1,5 @@
 -- What the rules look at in a module table. Where the module, net, port or instance isn't there, there is nothing to see.
-use Rattle.std.specs.Prelude.{ℕ, ◌+◌, ◌==◌, Bool, true, false, ◌&&◌, ◌||◌, nat_lt, List, [], ◌∷◌, Option, Some, None, is_some, option_and_then, bytes_eq, position, slice_get, sum_by, count_by, length, zip}
+use Rattle.std.specs.Prelude.{ℕ, ◌+◌, ◌==◌, Bool, true, false, ◌&&◌, ◌||◌, nat_lt, List, [], ◌∷◌, Option, Some, None, is_some, bytes_eq, slice_get, sum_by, count_by, length, zip}
 use Rattle.std.specs.List.{list_any, list_all}
 use Rattle.emh_base.specs.declared.ids.ModId.{ModId}
 use Rattle.emh_base.specs.declared.ids.NetId.{NetId}
@@ -16,8 +16,8 @@ use Rattle.emh_base.specs.declared.plain.PPort.{PPort}
 use Rattle.emh_base.specs.declared.plain.PInst.{PInst}
 use Rattle.emh_base.specs.declared.plain.PModule.{PModule}
 use Rattle.emh_base.specs.declared.plain.Plain.{Plain}
-use Rattle.flatten_rules.specs.Lookup.{module_of, net_of, port_of, inst_of, insts_of, width, width_of}
-use Rattle.flatten_rules.specs.Domains.{ports_of}
+use Rattle.flatten_rules.specs.Lookup.{module_of, net_of, insts_of, width, width_of}
+pub use Rattle.flatten_rules.specs.Changes.{port_place, inst_in, master_of, net_in, port_in}
 
 -- modules
 
@@ -56,15 +56,6 @@ is_name_in m name = list_any (λ net. bytes_eq net.name name) (nets_of m) || lis
 
 -- nets, ports and instances of a module
 
-abbrev pub net_in : Plain → ModId → NetId → Option PNet
-net_in M m net = option_and_then (λ holder. net_of holder net) (module_of M m)
-
-abbrev pub port_in : Plain → ModId → NetId → Option PPort
-port_in M m net = option_and_then (λ holder. port_of holder net) (module_of M m)
-
-abbrev pub inst_in : Plain → ModId → InstId → Option PInst
-inst_in M m inst = option_and_then (λ holder. inst_of holder inst) (module_of M m)
-
 abbrev pub is_net : Plain → ModId → NetId → Bool
 is_net M m net = is_some (net_in M m net)
 
@@ -89,18 +80,11 @@ abbrev pub master_id : Option PInst → ModId
 master_id None = no_module
 master_id (Some inst) = inst.master
 
-abbrev pub master_of : Plain → Option PInst → Option PModule
-master_of M inst = option_and_then (λ there. module_of M there.master) inst
-
 -- how many instances have the module as their master, in the whole table
 unfoldable pub users : Plain → ModId → ℕ
 users M m = sum_by (λ holder. count_by (λ inst. inst.master.0 == m.0) holder.insts) M.modules
 
 -- connections
-
--- the place of a port among its module's ports
-abbrev pub port_place : Option PModule → NetId → Option ℕ
-port_place m port = position (λ other. other.net.0 == port.0) (ports_of m)
 
 abbrev pub conns_of : Option PInst → List Conn
 conns_of None = []

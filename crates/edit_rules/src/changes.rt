@@ -2,7 +2,7 @@
 
 ghost use Rattle.std.specs.Prelude.{◌≡◌, ◌==◌, not, [], ◌∷◌, ◌++◌, map, filter, remove, slice_set, IfOk, if◌then◌else◌};
 ghost use Rattle.emh_base.specs.declared.plain.Conn.TheVariants.{Open};
-ghost use Rattle.edit_rules.specs.Changes.{with_insts, with_conns};
+ghost use Rattle.flatten_rules.specs.Changes.{with_insts, with_conns};
 ghost use Rattle.edit_rules.specs.Nets.{without_net, without_port, without_conn};
 ghost use Rattle.edit_rules.specs.Insts.{set_conn};
 

@@ -3,7 +3,7 @@
 ghost use Rattle.std.specs.Prelude.{◌≡◌, ◌+◌, ◌<◌, AllPairs, IfOk};
 ghost use Rattle.emh_base.specs.declared.plain.PModule.{PModule};
 ghost use Rattle.flatten_rules.specs.Lookup.{module_of};
-ghost use Rattle.edit_rules.specs.Changes.{with_module};
+ghost use Rattle.flatten_rules.specs.Changes.{with_module};
 ghost use Rattle.edit_rules.specs.Readers.{next_net_of};
 ghost use Rattle.edit_rules.specs.Nets.{with_net, create_net, with_port, create_port, delete_net, delete_port, rename_net};
 

@@ -1,5 +1,5 @@
 ghost use Rattle.std.specs.Prelude.{◌≡◌, ◌+◌, ◌<◌, IfOk};
-ghost use Rattle.edit_rules.specs.Changes.{with_module, with_inst, with_last_module, at_instances};
+ghost use Rattle.flatten_rules.specs.Changes.{with_module, with_inst, with_last_module, at_instances};
 
 use crate::changes::{Insts, OfMaster};
 use crate::rewrite::{At, Rewrite, each, with_last};

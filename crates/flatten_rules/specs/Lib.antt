@@ -17,3 +17,7 @@ pub mod Sorted
 pub mod FlatLines
 pub mod TwoLevel
 pub mod ByPath
+pub mod Changes
+pub mod ModuleChanges
+pub mod NetChanges
+pub mod InstChanges

@@ -3,7 +3,7 @@ use Rattle.std.specs.Option.{option_copied}
 use Rattle.emh_base.specs.declared.plain.Plain.{Plain}
 use Rattle.flatten_rules.specs.Lookup.{module_of}
 use Rattle.edit_rules.specs.Insts.{with_new_inst, all_open}
-use Rattle.edit_rules.specs.Changes.{with_module}
+use Rattle.flatten_rules.specs.Changes.{with_module}
 use Rattle.edit_rules.proofs.ChangeLemmas.{absent_changed, found_changed}
 use Rattle.edit_rules.proofs.insts.create_inst.Goals as goal
 

@@ -2,7 +2,7 @@ use Rattle.std.proofs.Common.{◌≡◌, ℕ, Option, IfOk, subst, ap, ap₂, �
 use Rattle.emh_base.specs.declared.plain.PModule.{PModule}
 use Rattle.emh_base.specs.declared.plain.Plain.{Plain}
 use Rattle.edit_rules.specs.Readers.{port_place}
-use Rattle.edit_rules.specs.Changes.{at_instances, with_conns}
+use Rattle.flatten_rules.specs.Changes.{at_instances, with_conns}
 use Rattle.edit_rules.specs.Nets.{without_conn}
 use Rattle.edit_rules.proofs.nets.delete_port.Goals as goal
 

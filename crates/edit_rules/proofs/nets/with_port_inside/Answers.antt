@@ -2,7 +2,7 @@ use Rattle.std.proofs.Common.{◌≡◌, IfOk, subst, sym, ap, ◌∙◌}
 use Rattle.std.specs.Option.{option_copied}
 use Rattle.emh_base.specs.declared.plain.Plain.{Plain}
 use Rattle.edit_rules.specs.Nets.{with_port}
-use Rattle.edit_rules.specs.Changes.{with_module}
+use Rattle.flatten_rules.specs.Changes.{with_module}
 use Rattle.edit_rules.proofs.ChangeLemmas.{absent_changed, found_changed}
 use Rattle.edit_rules.proofs.nets.with_port_inside.Goals as goal
 

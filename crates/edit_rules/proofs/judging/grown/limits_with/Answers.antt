@@ -9,7 +9,7 @@ use Rattle.flatten_rules.specs.Sound.{IsSound}
 use Rattle.edit_rules.specs.declared.facts.Totals.{Totals}
 use Rattle.edit_rules.specs.Good.{IsGoodState}
 use Rattle.edit_rules.specs.Readers.{is_module}
-use Rattle.edit_rules.specs.Changes.{with_module}
+use Rattle.flatten_rules.specs.Changes.{with_module}
 use Rattle.edit_rules.specs.Insts.{with_inst_alone, create_inst}
 use Rattle.edit_rules.specs.Limits.{is_too_deep, has_too_many_occurrences, has_too_many_bits, leads_to}
 use Rattle.edit_rules.specs.Facts.{totals, times, inst_after}
