@@ -61,9 +61,10 @@ pub enum Says {
 
 /// The lines of a script that ask for commands, each with its number, its words and its command.
 ///
-/// A script's lines end with a newline; a last piece that isn't empty is a line too. A line has only the bytes 32 to 126
-/// and tabs, but for one carriage return at its end, and its words are divided by spaces and tabs. A line without words,
-/// or whose first word begins with `#`, is passed over. Any other one is as `specs/Table.antt` has it.
+/// A script's lines end with a newline; a last piece that isn't empty is a line too. A line has only the
+/// bytes 32 to 126 and tabs, but for one carriage return at its end, and its words are divided by spaces
+/// and tabs. A line without words, or whose first word begins with `#`, is passed over. Any other one is
+/// as `specs/Table.antt` has it.
 ///
 /// `TooManyLines` comes exactly where there are more than 1,000,000 lines, and is looked for first; else `BadLine`
 /// exactly where some line is outside the grammar, with the first one's number. The time is linear in the bytes.

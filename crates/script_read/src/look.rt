@@ -116,7 +116,8 @@ pub fn a_pin<F: Facts>(
 fn pin_of<F: Facts>(facts: &F, module: ModId, inst: InstId, name: &Name) -> Option<(ModId, NetId)>
     requires sound { IsSound (F.state facts.now).plain }
     requires live { IsTrue (is_module (F.state facts.now).plain «module») }
-    ensures { result ≡ option_and_then (pin_in (F.state facts.now) name.now) (master (F.state facts.now) «module» inst) }
+    ensures { result ≡ option_and_then (pin_in (F.state facts.now) name.now)
+        (master (F.state facts.now) «module» inst) }
 {
     match facts.master(module, inst) {
         None => None,

@@ -242,7 +242,8 @@ fn connect<F: Facts>(
     bits: &List<BitWord>,
 ) -> Result<Edit, Judged>
     requires { IsSound (F.state facts.now).plain }
-    ensures { Resolves (resolution (F.state facts.now) (Command.Connect «module».now inst.now port.now bits.now)) result }
+    ensures { Resolves (resolution (F.state facts.now)
+        (Command.Connect «module».now inst.now port.now bits.now)) result }
 {
     let module = a_module(facts, 1, module)?;
     let inst = an_inst(facts, module, 2, inst)?;
@@ -311,7 +312,8 @@ fn place<F: Facts>(
     placement: Placement,
 ) -> Result<Edit, Judged>
     requires { IsGoodState (F.state facts.now) }
-    ensures { Resolves (resolution (F.state facts.now) (Command.Place path.now placement.x placement.y placement.orient placement.status)) result }
+    ensures { Resolves (resolution (F.state facts.now)
+        (Command.Place path.now placement.x placement.y placement.orient placement.status)) result }
 {
     let path = a_path(alloc, facts, 1, path.as_slice())?;
     Ok(Edit::Place { path, placement })

@@ -66,7 +66,8 @@ fn with_source<F: Facts>(
 ) -> Result<List<Src>, Judged>
     requires sound { IsSound (F.state facts.now).plain }
     requires live { IsTrue (is_module (F.state facts.now).plain «module») }
-    ensures answer { Answers (on (a_source (F.state facts.now) «module» place bit.now) (λ bits. Ok (before ++ bits))) result }
+    ensures answer { Answers (on (a_source (F.state facts.now) «module» place bit.now)
+        (λ bits. Ok (before ++ bits))) result }
     ensures more { IfOk result (λ found. length before < length found) }
 {
     match bit {
