@@ -114,7 +114,7 @@ const BAD: &[&[u8]] = &[
     b"place p//u -1 -1 R0 Fixed",
     b"place p/u +1 -1 R0 Fixed",
     b"place p/u -1 +1 R0 Fixed",
-    b"place p/u -1 -1 R45 Fixed",
+    b"place p/u -1 -1 r0 Fixed",
     b"place p/u -1 -1 R0 fixed",
     b"unplace",
     b"unplace p/u x",

@@ -75,8 +75,8 @@ const LINES: &[(&[u8], &[u8])] = &[
     (b"set_grid 0", b"set_grid 0"),
 ];
 
-/// A script, and for each line that asks for a command its number, how many words it has, and the line that is written for
-/// the command; or the first bad line.
+/// A script, and for each line that asks for a command its number, how many words it has, and the line
+/// that is written for the command; or the first bad line.
 const SCRIPTS: &[(&[u8], &[u8])] = &[
     (b"", b""),
     (b"\n", b""),
