@@ -31,3 +31,8 @@ EachCommandReads = (words : List (List ℕ)) (command : Command) → command_of 
 abbrev pub EachLineReads : Type 0
 EachLineReads = (line : List ℕ) (words : List (List ℕ)) (command : Command) → line_says line ≡ Asks words command
     → line_says (line_text command) ≡ Asks (words_by command) command
+
+-- a line asks for one command at most, with one list of words
+abbrev pub EachLineAsksOnce : Type 0
+EachLineAsksOnce = (line : List ℕ) (words others : List (List ℕ)) (command other : Command)
+    → line_says line ≡ Asks words command → line_says line ≡ Asks others other → (words ≡ others) × (command ≡ other)
