@@ -1,5 +1,5 @@
 //! Word tables.
-use word_table::{Words, line_words, reserved_words, rule_names};
+use word_table::{Words, cause_name, line_words, reserved_words, rule_names};
 
 const WRITTEN: &[&[u8]] = word_table::words![b"" b"a" b"ab" b"b"];
 
@@ -72,5 +72,21 @@ fn the_names_of_rules_are_found_by_row(rt: HostRuntime) {
     ];
     for (word, row) in cases {
         assert_eq!(rt; table.find(word), row);
+    }
+}
+
+#[test]
+fn causes_have_names_by_their_codes(rt: HostRuntime) {
+    let cases: [(u32, &[u8]); 7] = [
+        (1, b"NoSuchModule"),
+        (37, b"FileTooLong"),
+        (57, b"NoSize"),
+        (74, b"TooManyModules"),
+        (0, b""),
+        (6, b""),
+        (75, b""),
+    ];
+    for (code, name) in cases {
+        assert_eq!(rt; cause_name(code), name);
     }
 }

@@ -20,7 +20,7 @@ use Rattle.flatten_rules.specs.Limits.{bits_of}
 use Rattle.flatten_rules.specs.Domains.{ports_of}
 use Rattle.flatten_rules.specs.Root.{bit_of}
 use Rattle.flatten_rules.specs.Design as design
-use Rattle.edit_rules.specs.declared.facts.Counters.{Counters}
+use Rattle.emh_base.specs.declared.plain.Counters.{Counters}
 use Rattle.edit_rules.specs.declared.facts.Totals.{Totals}
 use Rattle.edit_rules.specs.declared.facts.Spot.{Spot}
 use Rattle.edit_rules.specs.declared.facts.Spot.TheVariants.{Absent, Inner, Leaf}

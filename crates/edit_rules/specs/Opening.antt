@@ -32,3 +32,12 @@ FaultLooks fault (Err told) = fault ≡ Some told
 -- the id of the module of that name
 abbrev pub top_named : Plain → List ℕ → Option ModId
 top_named M name = option_map (λ m. m.id) (module_named M name)
+
+-- the number by which a fault is told in print; want of memory is never told
+abbrev pub open_code : OpenFault → ℕ
+open_code NoSuchModule = 1
+open_code IsCell = 10
+open_code TooDeep = 29
+open_code TooManyOccurrences = 17
+open_code TooManyBits = 30
+open_code NoMemory = 0

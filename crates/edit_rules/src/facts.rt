@@ -6,14 +6,7 @@ ghost use Rattle.edit_rules.specs.Readers.{is_module, is_locked, is_name_in, is_
 ghost use Rattle.edit_rules.specs.Good.{IsGoodState};
 ghost use Rattle.edit_rules.specs.Facts.{is_top, module_named, net_named, inst_named, name_of_module, name_of_net, name_of_inst, net_range, port_dir, port_at, net_after, inst_after, module_after, master, is_open, src_at, counters, totals, times, leaf_at};
 
-use emh_base::{Dir, InstId, ModId, Name, NetId, Path, Placement, Range, Src};
-
-/// The ids that a module's next net and instance get.
-#[derive(Clone, Copy, Debug, PartialEq, Eq)]
-pub struct Counters {
-    pub next_net: u32,
-    pub next_inst: u32,
-}
+use emh_base::{Counters, Dir, InstId, ModId, Name, NetId, Path, Placement, Range, Src};
 
 /// How far a design unfolds: its occurrences, the top among them, and their net bits.
 #[derive(Clone, Copy, Debug, PartialEq, Eq)]

@@ -6,15 +6,8 @@ ghost use Rattle.edit_rules.specs.Apply.{checks};
 
 use crate::facts::Facts;
 use crate::judging::look;
-use emh_base::{Edit, NoMemory, Object, Refusal, Rule};
+use emh_base::{Edit, Need, NoMemory, Object, Refusal, Rule};
 use std::alloc::Global;
-
-/// What an edit needs in the tables of a design that is kept linked: new rows, and writes to rows.
-#[derive(Clone, Copy, Debug, PartialEq, Eq)]
-pub struct Need {
-    pub rows: u64,
-    pub writes: u64,
-}
 
 /// Why an edit isn't done.
 #[derive(Clone, Copy, Debug, PartialEq, Eq)]

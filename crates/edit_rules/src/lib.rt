@@ -23,9 +23,9 @@ mod spots;
 mod table;
 
 pub use apply::apply_plain;
-pub use facts::{Counters, Facts, Spot, Totals};
+pub use facts::{Facts, Spot, Totals};
 pub use good::is_good_state;
-pub use judged::{Judged, Need, judge};
+pub use judged::{Judged, judge};
 pub use laws::{
     each_edit_stays_good, each_limit_is_tested, survivors_stay_placed, worked_edits, worked_readers,
 };

@@ -2,7 +2,7 @@ ghost use Rattle.std.specs.Prelude.{◌≡◌, false, Some, None, [], ◌∷◌,
 ghost use Rattle.flatten_rules.specs.Sound.{IsSound};
 ghost use Rattle.flatten_rules.specs.Design.{IsGood, module_named};
 ghost use Rattle.edit_rules.specs.Check.{first_broken};
-ghost use Rattle.edit_rules.specs.Opening.{top_rules, open_fault, FaultLooks, top_named};
+ghost use Rattle.edit_rules.specs.Opening.{top_rules, open_fault, open_code, FaultLooks, top_named};
 
 use crate::depth::is_too_deep;
 use crate::limits::{has_too_many_bits, has_too_many_occurrences};
@@ -32,6 +32,22 @@ impl From<NoMemory> for OpenFault {
 
     fn from(_: NoMemory) -> OpenFault {
         OpenFault::NoMemory
+    }
+}
+
+impl OpenFault {
+    /// The number by which the fault is told in print; 0 for want of memory, which isn't.
+    pub fn code(self) -> u32
+        ensures { result ≡ open_code self }
+    {
+        match self {
+            OpenFault::NoSuchModule => 1,
+            OpenFault::IsCell => 10,
+            OpenFault::TooDeep => 29,
+            OpenFault::TooManyOccurrences => 17,
+            OpenFault::TooManyBits => 30,
+            OpenFault::NoMemory => 0,
+        }
     }
 }
 

@@ -12,14 +12,11 @@ ghost use Rattle.edit_rules.specs.Readers.{is_module, net_in, port_in, inst_in, 
 ghost use Rattle.edit_rules.specs.Facts.{is_past, is_open_conn};
 
 use crate::count::below;
-use crate::facts::{Counters, Facts, Spot, Totals};
+use crate::facts::{Facts, Spot, Totals};
 use crate::limits::{NetBits, Occurrences, Of};
 use crate::readers::{is_name_in, is_net_used, is_place_used, place_of_port};
 use crate::spots::module_at;
-use emh_base::{
-    Conn, Dir, InstId, List, ModId, Name, NetId, PInst, PModule, PNet, PPort, Path, Plain, Range,
-    Src, State,
-};
+use emh_base::{Conn, Counters, Dir, InstId, List, ModId, Name, NetId, PInst, PModule, PNet, PPort, Path, Plain, Range, Src, State};
 use flatten_rules::{Numbered, find, module_of, net_of, port_of};
 
 /// A module that is there.

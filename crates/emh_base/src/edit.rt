@@ -140,6 +140,13 @@ pub struct Change {
     pub made: Option<u32>,
 }
 
+/// What an edit needs in the tables of a design that is kept linked: new rows, and writes to rows.
+#[derive(Clone, Copy, Debug, PartialEq, Eq)]
+pub struct Need {
+    pub rows: u64,
+    pub writes: u64,
+}
+
 impl TryCopy for Edit {
     fn copy(&self) -> Result<Edit, NoMemory> {
         Ok(match self {

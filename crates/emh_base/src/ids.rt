@@ -1,4 +1,4 @@
-/// A module of the table. An id isn't given again while the table lives.
+/// A module of the table. No id is given twice, unless an undo takes the first giving back.
 #[derive(Clone, Copy, Debug, Default, PartialEq, Eq, PartialOrd, Ord, Hash)]
 pub struct ModId(pub u32);
 

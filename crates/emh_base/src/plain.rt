@@ -76,6 +76,13 @@ pub struct PModule {
     pub next_inst: u32,
 }
 
+/// The ids that a module's next net and instance get.
+#[derive(Clone, Copy, Debug, PartialEq, Eq)]
+pub struct Counters {
+    pub next_net: u32,
+    pub next_inst: u32,
+}
+
 /// The module table, in rising order of id. The counter is the id that the next module gets.
 #[derive(Debug, Drop)]
 pub struct Plain {

@@ -1,4 +1,4 @@
-use crate::ids::{InstId, ModId, NetId, OccKey};
+use crate::ids::ModId;
 use crate::memory::NoMemory;
 use crate::places::Places;
 use crate::plain::Plain;
@@ -26,23 +26,6 @@ pub struct State {
     pub top: ModId,
     pub places: Places,
     pub settings: Settings,
-}
-
-/// What a net bit of an occurrence is connected to in the end, by its row: a constant, or a net bit of an occurrence,
-/// by the offset from the left.
-#[derive(Clone, Copy, Debug, PartialEq, Eq)]
-pub enum RootKey {
-    Tie0,
-    Tie1,
-    Own(OccKey, NetId, u16),
-}
-
-/// A bit of a pin: an instance of a module, a port of its master and the offset from the left.
-#[derive(Clone, Copy, Debug, PartialEq, Eq)]
-pub struct PinRef {
-    pub inst: InstId,
-    pub port: NetId,
-    pub offset: u16,
 }
 
 impl TryCopy for State {

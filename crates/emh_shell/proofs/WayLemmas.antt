@@ -11,7 +11,7 @@ use Rattle.emh_base.specs.declared.plain.PInst.{PInst}
 use Rattle.emh_base.specs.declared.plain.PModule.{PModule}
 use Rattle.emh_base.specs.declared.plain.Plain.{Plain}
 use Rattle.emh_base.specs.Text.{spell, front_text}
-use Rattle.flatten_rules.specs.declared.root.Root.TheVariants.{Own}
+use Rattle.emh_base.specs.declared.root.Root.TheVariants.{Own}
 use Rattle.flatten_rules.specs.Lookup.{module_of, net_of}
 use Rattle.flatten_rules.specs.Sound.{IsSoundModule, IsAllowed}
 use Rattle.flatten_rules.proofs.Sound.{All-find}

@@ -5,7 +5,7 @@ use Rattle.emh_base.specs.declared.ids.InstId.{InstId}
 use Rattle.emh_base.specs.declared.plain.PNet.{PNet}
 use Rattle.emh_base.specs.declared.plain.Plain.{Plain}
 use Rattle.emh_base.specs.Text.{pin_text}
-use Rattle.flatten_rules.specs.declared.root.Root.{Root}
+use Rattle.emh_base.specs.declared.root.Root.{Root}
 use Rattle.flatten_rules.specs.Lookup.{module_of}
 use Rattle.flatten_rules.specs.Domains.{Pin, pins, port_net, root_of_pin}
 use Rattle.flatten_rules.specs.Texts.{names_up, root_text}

@@ -4,8 +4,8 @@ use Rattle.std.proofs.lemmas.Cmp.{tied_itself}
 use Rattle.std.proofs.lemmas.List.Elements.{All-contains, All-filter, All-contains_itself, filter_passes}
 use Rattle.emh_base.specs.Path.{path_cmp, path_total}
 use Rattle.emh_base.proofs.PlacesLemmas.{path_apart}
-use Rattle.flatten_rules.specs.declared.root.Root.{Root}
-use Rattle.flatten_rules.specs.declared.root.Root.TheVariants.{Tie0, Tie1, Own}
+use Rattle.emh_base.specs.declared.root.Root.{Root}
+use Rattle.emh_base.specs.declared.root.Root.TheVariants.{Tie0, Tie1, Own}
 use Rattle.flatten_rules.specs.Domains.{NetBit, IsBlockNet, is_own, root_of, net_bits, block_nets, EachBlockNet}
 
 both : (a b : Bool) → a && b ≡ true → (a ≡ true) × (b ≡ true)

@@ -11,8 +11,8 @@ use Rattle.emh_base.specs.declared.plain.PNet.{PNet}
 use Rattle.emh_base.specs.declared.plain.PPort.{PPort}
 use Rattle.emh_base.specs.declared.plain.PModule.{PModule}
 use Rattle.emh_base.specs.declared.plain.Plain.{Plain}
-use Rattle.flatten_rules.specs.declared.root.Root.{Root}
-use Rattle.flatten_rules.specs.declared.root.Root.TheVariants.{Tie0, Tie1, Own}
+use Rattle.emh_base.specs.declared.root.Root.{Root}
+use Rattle.emh_base.specs.declared.root.Root.TheVariants.{Tie0, Tie1, Own}
 use Rattle.flatten_rules.specs.Lookup.{module_of, net_of, width_of}
 use Rattle.flatten_rules.specs.Unfolding.{Occurrence, occurrences}
 use Rattle.flatten_rules.specs.Root.{root_up, pin_root}

@@ -9,8 +9,8 @@ use Rattle.emh_base.specs.declared.plain.Conn.TheVariants.{Open, Bits}
 use Rattle.emh_base.specs.declared.plain.PInst.{PInst}
 use Rattle.emh_base.specs.declared.plain.PModule.{PModule}
 use Rattle.emh_base.specs.declared.plain.Plain.{Plain}
-use Rattle.flatten_rules.specs.declared.root.Root.{Root}
-use Rattle.flatten_rules.specs.declared.root.Root.TheVariants.{Tie0, Tie1, Own}
+use Rattle.emh_base.specs.declared.root.Root.{Root}
+use Rattle.emh_base.specs.declared.root.Root.TheVariants.{Tie0, Tie1, Own}
 use Rattle.flatten_rules.specs.Unfolding.{module_up, inst_up}
 
 -- the source of one bit of a connection; none where it is open

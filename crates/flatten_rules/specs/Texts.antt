@@ -10,8 +10,8 @@ use Rattle.emh_base.specs.declared.plain.PModule.{PModule}
 use Rattle.emh_base.specs.declared.plain.Plain.{Plain}
 use Rattle.emh_base.specs.Name.{IsName}
 use Rattle.emh_base.specs.Text.{path_text, bit_text, pin_text}
-use Rattle.flatten_rules.specs.declared.root.Root.{Root}
-use Rattle.flatten_rules.specs.declared.root.Root.TheVariants.{Tie0, Tie1, Own}
+use Rattle.emh_base.specs.declared.root.Root.{Root}
+use Rattle.emh_base.specs.declared.root.Root.TheVariants.{Tie0, Tie1, Own}
 use Rattle.flatten_rules.specs.Lookup.{net_of, width_of}
 use Rattle.flatten_rules.specs.Unfolding.{module_up, inst_up}
 use Rattle.flatten_rules.specs.Domains.{NetBit}

@@ -1,5 +1,4 @@
-use crate::root::Root;
-use emh_base::{List, ModId, NetId, Path, Placement};
+use emh_base::{List, ModId, NetId, Path, Placement, Root};
 
 /// An occurrence of the unfolding: a module at the end of a path, the top at the empty one.
 #[derive(Debug, Drop)]

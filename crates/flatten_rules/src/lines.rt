@@ -12,10 +12,9 @@ use crate::domain::{FreshBit, FreshInst, FreshPin};
 use crate::flatten::unfold;
 use crate::lookup::{module_of, width};
 use crate::port::all_port_places;
-use crate::root::Root;
 use crate::sorting::sorted;
 use crate::tracer::Tracer;
-use emh_base::{Dir, List, ModId, NoMemory, PPort, Places, Plain, push_spelled};
+use emh_base::{Dir, List, ModId, NoMemory, PPort, Places, Plain, Root, push_spelled};
 use std::alloc::Global;
 
 /// The flat netlist of a top, as lines without newlines, sorted by their bytes: `term NETBIT DIR` for each bit of its

@@ -7,9 +7,8 @@ ghost use Rattle.flatten_rules.specs.Texts.{inst_name, names_up, net_up, net_bit
 
 use crate::domain::FreshPin;
 use crate::lookup::net_of;
-use crate::root::Root;
 use crate::tracer::Tracer;
-use emh_base::{InstId, List, NetId, NoMemory, PNet, push_index, push_spelled};
+use emh_base::{InstId, List, NetId, NoMemory, PNet, Root, push_index, push_spelled};
 
 /// The texts of what a table unfolds to, put last in a list. An instance or a net that isn't there has none.
 impl<'a> Tracer<'a> {

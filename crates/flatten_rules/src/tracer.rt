@@ -7,8 +7,7 @@ ghost use Rattle.flatten_rules.specs.Root.{source_through, source_above, root_up
 
 use crate::lookup::{find, module_of, place_of_module};
 use crate::port::port_place;
-use crate::root::Root;
-use emh_base::{Conn, InstId, ModId, NetId, NoMemory, PInst, PModule, Path, Plain, Src};
+use emh_base::{Conn, InstId, ModId, NetId, NoMemory, PInst, PModule, Path, Plain, Root, Src};
 use std::alloc::Global;
 
 /// Finds the roots of net bits and pins of the unfolding of a sound table from a top, by walking up their paths.

@@ -10,8 +10,8 @@ use Rattle.emh_base.specs.declared.plain.PNet.{PNet}
 use Rattle.emh_base.specs.declared.plain.PInst.{PInst}
 use Rattle.emh_base.specs.declared.plain.PModule.{PModule}
 use Rattle.emh_base.specs.declared.plain.Plain.{Plain}
-use Rattle.flatten_rules.specs.declared.root.Root.{Root}
-use Rattle.flatten_rules.specs.declared.root.Root.TheVariants as root
+use Rattle.emh_base.specs.declared.root.Root.{Root}
+use Rattle.emh_base.specs.declared.root.Root.TheVariants as root
 use Rattle.flatten_rules.specs.Lookup.{module_of, net_of}
 use Rattle.flatten_rules.specs.Unfolding.{module_up}
 use Rattle.flatten_rules.specs.Domains.{NetBit, is_own}

@@ -13,4 +13,5 @@ pub mod Pins
 pub mod Elaboration
 pub mod Reads
 pub mod Law
+pub mod Code
 pub mod Placed

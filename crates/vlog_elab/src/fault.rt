@@ -34,6 +34,34 @@ pub enum ElabKind {
     TooManyModules,
 }
 
+impl ElabKind {
+    ghost use Rattle.std.specs.Prelude.{◌≡◌};
+    ghost use Rattle.vlog_elab.specs.Code.{elab_code};
+
+    /// The number by which the rule is told in print.
+    pub fn code(self) -> u32
+        ensures { result ≡ elab_code self }
+    {
+        match self {
+            ElabKind::NameTaken => 60,
+            ElabKind::UnknownModule => 61,
+            ElabKind::UnknownPort => 62,
+            ElabKind::PortTwice => 63,
+            ElabKind::Mixed => 64,
+            ElabKind::TooManyConnections => 65,
+            ElabKind::WidthMismatch => 66,
+            ElabKind::BadIndex => 67,
+            ElabKind::NoDirection => 68,
+            ElabKind::RangeDiffers => 69,
+            ElabKind::LateDeclaration => 70,
+            ElabKind::LeafBody => 71,
+            ElabKind::TooWide => 72,
+            ElabKind::Recursive => 73,
+            ElabKind::TooManyModules => 74,
+        }
+    }
+}
+
 /// Why a tree has no table: the first rule that is broken, the place of the token that breaks it, counted from 0, and
 /// what has that name there.
 #[derive(Debug, Drop)]

@@ -5,5 +5,6 @@ pub mod Attribute
 pub mod Number
 pub mod Piece
 pub mod Found
+pub mod Code
 pub mod Lexes
 pub mod Law

@@ -62,3 +62,23 @@ impl From<emh_base::NoMemory> for LexFault {
         LexFault::NoMemory
     }
 }
+
+impl LexFault {
+    ghost use Rattle.std.specs.Prelude.{◌≡◌};
+    ghost use Rattle.vlog_lex.specs.Code.{lex_code};
+
+    /// The number by which the fault is told in print; 0 for want of memory, which isn't.
+    pub fn code(&self) -> u32
+        ensures { result ≡ lex_code self.now }
+    {
+        match self {
+            LexFault::BadByte { .. } => 41,
+            LexFault::OpenComment { .. } => 42,
+            LexFault::OpenAttribute { .. } => 43,
+            LexFault::BadLiteral { .. } => 44,
+            LexFault::LongName { .. } => 45,
+            LexFault::Directive { .. } => 46,
+            LexFault::NoMemory => 0,
+        }
+    }
+}

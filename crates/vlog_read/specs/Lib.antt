@@ -3,6 +3,7 @@ pub mod Grammar
 pub mod Sentence
 pub mod Law
 pub mod Found
+pub mod Code
 pub mod Machine
 pub mod Bare
 pub mod HasTree

@@ -21,3 +21,19 @@ impl From<emh_base::NoMemory> for ParseFault {
         ParseFault::NoMemory
     }
 }
+
+impl ParseFault {
+    ghost use Rattle.std.specs.Prelude.{◌≡◌};
+    ghost use Rattle.vlog_read.specs.Code.{parse_code};
+
+    /// The number by which the fault is told in print; 0 for want of memory, which isn't.
+    pub fn code(&self) -> u32
+        ensures { result ≡ parse_code self.now }
+    {
+        match self {
+            ParseFault::Unexpected { .. } => 48,
+            ParseFault::Unsupported { .. } => 49,
+            ParseFault::NoMemory => 0,
+        }
+    }
+}

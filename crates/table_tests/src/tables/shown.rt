@@ -1,6 +1,6 @@
 //! What a table unfolds to, as text.
-use emh_base::Path;
-use flatten_rules::{Fresh, FreshBit, FreshInst, FreshOcc, FreshPin, Root};
+use emh_base::{Path, Root};
+use flatten_rules::{Fresh, FreshBit, FreshInst, FreshOcc, FreshPin};
 use std::alloc::Global;
 use std::fmt::Write;
 use std::test::Fail;

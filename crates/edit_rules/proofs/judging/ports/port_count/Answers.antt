@@ -1,5 +1,5 @@
 use Rattle.std.proofs.Common.{ap, arith}
-use Rattle.edit_rules.specs.declared.facts.Counters.{Counters}
+use Rattle.emh_base.specs.declared.plain.Counters.{Counters}
 use Rattle.edit_rules.proofs.ReadLemmas.{ports-few}
 use Rattle.edit_rules.proofs.judging.ports.port_count.Goals as goal
 
