@@ -16,7 +16,7 @@ pub struct Row {
     pub mentions: usize,
 }
 
-/// Names in an index map. A name that is not live keeps its entry while an swap names it, so that it comes back without
+/// Names in an index map. A name that is not live keeps its entry while a swap names it, so that it comes back without
 /// memory.
 #[derive(Drop)]
 pub struct Names {
@@ -55,7 +55,7 @@ impl Names {
 
     /// Gives a name that has a row this value or none, with one mention more, and answers what it had.
     fn write(&mut self, key: (u32, usize), value: Option<u32>) -> Option<u32>
-        requires held { IsSome (get key_eq self.old.rows key) }
+        requires named { IsSome (get key_eq self.old.rows key) }
         requires few { mentions_at self.old key + 1 < 2 ^ 64 }
         ensures before { result ≡ map.get (live_names self.old) key }
         ensures live { live_names self.new ≡ put (live_names self.old) key value }

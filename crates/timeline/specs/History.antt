@@ -15,35 +15,40 @@ marks true = 1
 
 module _ {K V : Type 0} where
   -- the steps that are kept or may come without memory
-  abbrev pub steps_held : History K V → ℕ
-  steps_held j = length j.past.items + length j.swaps.items + length j.future.items + marks j.is_open + j.spare_writes
+  abbrev pub kept_steps : History K V → ℕ
+  kept_steps history =
+      length history.past.items + length history.swaps.items + length history.future.items
+      + marks history.is_open + history.spare_writes
 
   -- the timeline of live rows, with room for so many more
-  abbrev pub timeline_of : {R : K → K → Ordering} → FinMap R V → ℕ → History K V → Timeline (FinMap R V)
-  timeline_of live room j =
+  abbrev pub timeline_of : {R : K → K → Ordering} → FinMap R V → ℕ → History K V
+      → Timeline (FinMap R V)
+  timeline_of live room history =
       record {
         now = live;
-        past = moments_of j.past.items (undo_swaps j.swaps.items live);
-        future = moments_of j.future.items (undo_swaps j.swaps.items live);
-        is_open = j.is_open;
-        base = undo_swaps j.swaps.items live;
-        writes = length j.swaps.items;
+        past = moments_of history.past.items (undo_swaps history.swaps.items live);
+        future = moments_of history.future.items (undo_swaps history.swaps.items live);
+        is_open = history.is_open;
+        base = undo_swaps history.swaps.items live;
+        writes = length history.swaps.items;
         spare_rows = room;
-        spare_writes = j.spare_writes;
+        spare_writes = history.spare_writes;
       }
 
   -- the swaps of each key are counted, and the spare writes have room wherever they may go
-  pub record IsKept (R : K → K → Ordering) (mentions : K → ℕ) (j : History K V) : Type 0 where
-    pub counts : (k : K) → mentions k ≡ steps_of R k j.past.items + swaps_of R k j.swaps.items + steps_of R k j.future.items
-    pub past_fits : steps_held j ≤ deque_capacity j.past
-    pub future_fits : steps_held j ≤ deque_capacity j.future
-    pub swaps_fit : length j.swaps.items + j.spare_writes ≤ vec_capacity j.swaps
-    pub small : steps_held j < 2 ^ 64
-    pub closed : j.is_open ≡ false → j.swaps.items ≡ []
-    pub past_counted : j.past_len ≡ marks_in j.past.items
-    pub future_counted : j.future_len ≡ marks_in j.future.items
-    pub past_begins : BeginsWithMark j.past.items
-    pub future_begins : BeginsWithMark j.future.items
+  pub record IsKept (R : K → K → Ordering) (mentions : K → ℕ) (history : History K V) : Type 0 where
+    pub counts : (k : K) → mentions k
+        ≡ steps_of R k history.past.items + swaps_of R k history.swaps.items
+        + steps_of R k history.future.items
+    pub past_fits : kept_steps history ≤ deque_capacity history.past
+    pub future_fits : kept_steps history ≤ deque_capacity history.future
+    pub swaps_fit : length history.swaps.items + history.spare_writes ≤ vec_capacity history.swaps
+    pub small : kept_steps history < 2 ^ 64
+    pub closed : history.is_open ≡ false → history.swaps.items ≡ []
+    pub past_counted : history.past_len ≡ marks_in history.past.items
+    pub future_counted : history.future_len ≡ marks_in history.future.items
+    pub past_begins : BeginsWithMark history.past.items
+    pub future_begins : BeginsWithMark history.future.items
 
   -- no map of the timeline has the key
   pub record IsFresh {R : K → K → Ordering} (s : Timeline (FinMap R V)) (key : K) : Type 0 where

@@ -7,7 +7,8 @@ module _ {X Y Z : Type 0} (see : X → Y → Z) where
   abbrev pub joined : List (Moment X) → List (Moment Y) → List (Moment Z)
   joined [] ys = []
   joined (x ∷ xs) [] = []
-  joined (x ∷ xs) (y ∷ ys) = record { value = see x.value y.value; writes = x.writes + y.writes } ∷ joined xs ys
+  joined (x ∷ xs) (y ∷ ys) =
+      record { value = see x.value y.value; writes = x.writes + y.writes } ∷ joined xs ys
 
   -- one timeline of both, open where the first is
   abbrev pub join : Timeline X → Timeline Y → Timeline Z

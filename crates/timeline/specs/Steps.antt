@@ -8,7 +8,8 @@ use Rattle.timeline.specs.declared.steps.Swap.{Swap}
 use Rattle.timeline.specs.declared.steps.Step.{Step}
 use Rattle.timeline.specs.declared.steps.Step.TheVariants.{Mark, Write}
 
--- where a walk back through steps has come: the map there, the writes since the last mark, and the moments passed, the farthest first
+-- where a walk back through steps has come: the map there, the writes since the last mark, and the moments passed, the
+-- farthest first
 pub record Trail {K : Type 0} (R : K → K → Ordering) (V : Type 0) : Type 0 where
   pub at : FinMap R V
   pub writes : ℕ
@@ -19,8 +20,10 @@ module _ {K V : Type 0} {R : K → K → Ordering} where
   start_at m = record { at = m; writes = 0; moments = [] }
 
   abbrev pub step_back : Step K V → Trail R V → Trail R V
-  step_back Mark t = record { at = t.at; writes = 0; moments = record { value = t.at; writes = t.writes } ∷ t.moments }
-  step_back (Write swap) t = record { at = put t.at swap.key swap.value; writes = t.writes + 1; moments = t.moments }
+  step_back Mark t =
+      record { at = t.at; writes = 0; moments = record { value = t.at; writes = t.writes } ∷ t.moments }
+  step_back (Write swap) t =
+      record { at = put t.at swap.key swap.value; writes = t.writes + 1; moments = t.moments }
 
   -- the walk back through these steps, from the last
   abbrev pub walk_back : List (Step K V) → Trail R V → Trail R V

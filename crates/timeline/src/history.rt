@@ -92,6 +92,7 @@ impl<K: Copy, V: Copy> History<K, V> {
             ≡ record (timeline_of live room self.old) {
               is_open = true;
               base = live;
+              writes = 0;
               spare_writes = self.old.spare_writes - 1;
             } }
     {
@@ -103,7 +104,8 @@ impl<K: Copy, V: Copy> History<K, V> {
     pub fn note(&mut self, swap: Swap<K, V>)
         requires open { self.old.is_open ≡ true }
         requires spare { 0 < self.old.spare_writes }
-        requires fits { length self.old.swaps.items + self.old.spare_writes ≤ vec_capacity self.old.swaps }
+        requires fits { length self.old.swaps.items + self.old.spare_writes
+            ≤ vec_capacity self.old.swaps }
         ensures kept { (R : K → K → Ordering) (before after : K → ℕ) → IsKept R before self.old
             → ((k : K) → after k ≡ before k + one_at R swap.key k) → IsKept R after self.new }
         ensures written { (R : K → K → Ordering) → IsKeyOrder R
@@ -198,7 +200,8 @@ impl<K: Copy, V: Copy> History<K, V> {
     pub fn redo<R: KeptRows<K, V>>(&mut self, rows: &mut R)
         requires kept { IsKept R.order (R.mentions rows.old) self.old }
         requires closed { self.old.is_open ≡ false }
-        requires some { 0 < length (timeline_of (R.live rows.old) (R.room rows.old) self.old).future }
+        requires some { 0
+            < length (timeline_of (R.live rows.old) (R.room rows.old) self.old).future }
         ensures kept { IsKept R.order (R.mentions rows.new) self.new }
         ensures moves { let s = timeline_of (R.live rows.old) (R.room rows.old) self.old in
             let t = timeline_of (R.live rows.new) (R.room rows.new) self.new in

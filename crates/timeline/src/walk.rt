@@ -68,7 +68,7 @@ pub(crate) fn travel<K: Copy, V: Copy, R: KeptRows<K, V>>(
     to: &mut VecDeque<Step<K, V>>,
 )
     requires some { 0 < length (moments_of from.old.items (R.live rows.old)) }
-    requires held { (k : K) → steps_of R.order k from.old.items ≤ R.mentions rows.old k }
+    requires counted { (k : K) → steps_of R.order k from.old.items ≤ R.mentions rows.old k }
     requires room { deque_len from.old + deque_len to.old ≤ deque_capacity to.old }
     requires from_begins { BeginsWithMark from.old.items }
     requires to_begins { BeginsWithMark to.old.items }
@@ -106,7 +106,7 @@ pub(crate) fn release_first<K: Copy, V: Copy, R: KeptRows<K, V>>(
     rows: &mut R,
     steps: &mut VecDeque<Step<K, V>>,
 )
-    requires held { (k : K) → steps_of R.order k steps.old.items ≤ R.mentions rows.old k }
+    requires counted { (k : K) → steps_of R.order k steps.old.items ≤ R.mentions rows.old k }
     requires begins { BeginsWithMark steps.old.items }
     ensures live { R.live rows.new ≡ R.live rows.old }
     ensures mentions { (k : K) → R.mentions rows.new k + steps_of R.order k steps.old.items

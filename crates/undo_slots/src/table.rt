@@ -64,6 +64,7 @@ impl<T: Copy> Table<T> {
         ensures { self.new ≡ record self.old {
           is_open = true;
           base = self.old.now;
+          writes = 0;
           spare_writes = self.old.spare_writes - 1;
         } }
     {
@@ -153,7 +154,8 @@ impl<T: Copy> Table<T> {
     pub fn undo(&mut self)
         requires closed { self.old.is_open ≡ false }
         requires some { 0 < length self.old.past }
-        ensures moves { Moves self.old.past self.old.future self.old.now self.new.past self.new.future self.new.now }
+        ensures moves { Moves self.old.past self.old.future self.old.now
+            self.new.past self.new.future self.new.now }
         ensures rest { self.new ≡ record self.old {
           now = self.new.now;
           past = self.new.past;
@@ -168,7 +170,8 @@ impl<T: Copy> Table<T> {
     pub fn redo(&mut self)
         requires closed { self.old.is_open ≡ false }
         requires some { 0 < length self.old.future }
-        ensures moves { Moves self.old.future self.old.past self.old.now self.new.future self.new.past self.new.now }
+        ensures moves { Moves self.old.future self.old.past self.old.now
+            self.new.future self.new.past self.new.now }
         ensures rest { self.new ≡ record self.old {
           now = self.new.now;
           past = self.new.past;

@@ -37,3 +37,25 @@ fn a_name_taken_and_put_again(rt: HostRuntime) -> Result<(), Fail> {
     assert_eq!(rt; (index.find(0, 5), index.past_len()), (Some(80), 0));
     Ok(())
 }
+
+/// An abandoned record leaves the names as they were where it began.
+#[test]
+fn an_abandoned_record(rt: HostRuntime) -> Result<(), Fail> {
+    let mut index = Index::new(rt.alloc());
+    index.reserve(2, 6)?;
+    index.begin();
+    assert_eq!(rt; index.find(3, 1), None);
+    index.put(3, 1, 10);
+    index.commit();
+    index.begin();
+    assert!(rt; index.find(3, 1).is_some());
+    index.take(3, 1);
+    assert_eq!(rt; index.find(3, 2), None);
+    assert!(rt; index.reserve(1, 2).is_ok());
+    index.put(3, 2, 20);
+    assert_eq!(rt; (index.find(3, 1), index.find(3, 2)), (None, Some(20)));
+    index.abandon();
+    assert_eq!(rt; (index.find(3, 1), index.find(3, 2)), (Some(10), None));
+    assert_eq!(rt; (index.past_len(), index.record_len()), (1, 1));
+    Ok(())
+}

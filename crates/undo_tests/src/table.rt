@@ -38,6 +38,31 @@ fn keys_of_remembered_rows(rt: HostRuntime) -> Result<(), Fail> {
     Ok(())
 }
 
+/// A key that a map of the future has isn't given again either, until a new record forgets that future.
+#[test]
+fn keys_of_the_future(rt: HostRuntime) -> Result<(), Fail> {
+    let mut table: Table<u32> = Table::new(rt.alloc());
+    table.reserve(4, 20)?;
+    table.begin();
+    let first = table.add(7);
+    table.commit();
+    table.undo();
+    assert_eq!(rt; (table.get(first), table.future_len()), (None, 1));
+    table.begin();
+    let second = table.add(8);
+    assert!(rt; second != first);
+    table.abandon();
+    table.redo();
+    assert_eq!(rt; (table.get(first), table.get(second)), (Some(7), None));
+    table.undo();
+    table.begin();
+    table.commit();
+    table.begin();
+    assert!(rt; table.future_len() == 0);
+    table.abandon();
+    Ok(())
+}
+
 /// A record of no writes is remembered, undone and redone like any other.
 #[test]
 fn a_record_of_no_writes(rt: HostRuntime) -> Result<(), Fail> {

@@ -11,7 +11,7 @@ pub returns-in-Mark-clause-steps : goal.returns-in-Mark-clause-steps
 returns-in-Mark-clause-steps g c = λ k. omega (arith, c.loop-step.invariant.steps k, steps_of-mark g.R.KeptRows.order k c.loop-step.from.items c.pop_back.new.self.items c.in-Some.step c.in-Some.ensures.items c.in-Mark.is, steps_of-mark g.R.KeptRows.order k c.push_back_reserved.new.self.items c.args.to.now.items _ c.push_back_reserved.ensures.items refl)
 
 pub exchange-value-requires : goal.exchange-value-requires
-exchange-value-requires g c = omega (arith, c.loop-step.invariant.mentions c.in-Write.swap.key, c.loop-step.invariant.left c.in-Write.swap.key, c.requires.held c.in-Write.swap.key, steps_of-last g.met.R.KeptRows.ordered c.loop-step.from.items c.pop_back.new.self.items c.in-Some.step c.in-Write.swap c.in-Some.ensures.items c.in-Write.is)
+exchange-value-requires g c = omega (arith, c.loop-step.invariant.mentions c.in-Write.swap.key, c.loop-step.invariant.left c.in-Write.swap.key, c.requires.counted c.in-Write.swap.key, steps_of-last g.met.R.KeptRows.ordered c.loop-step.from.items c.pop_back.new.self.items c.in-Some.step c.in-Write.swap c.in-Some.ensures.items c.in-Write.is)
 
 pub loop-step-preserved : goal.loop-step-preserved
 loop-step-preserved g c = record {
