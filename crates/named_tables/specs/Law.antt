@@ -14,7 +14,8 @@ use Rattle.named_tables.specs.NamedTable.{named_table}
 -- sound tables that are the same by names have one flat netlist, at tops of one name
 abbrev pub EachFlatNetlistByNames : Type 0
 EachFlatNetlistByNames = (M N : Plain) (top other : ModId) (m n : PModule) → IsSound M → IsSound N
-    → named_table M ≡ named_table N → module_of M top ≡ Some m → module_of N other ≡ Some n → m.name ≡ n.name
+    → named_table M ≡ named_table N → module_of M top ≡ Some m → module_of N other ≡ Some n
+    → m.name ≡ n.name
     → flat_lines M top ≡ flat_lines N other
 
 -- a table that is sound but for cycles, which it may have

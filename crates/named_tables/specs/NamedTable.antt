@@ -70,7 +70,11 @@ named_conn m (Bits bits) = Some (map (named_source m) bits)
 
 abbrev pub named_port : PModule → PPort → NamedPort
 named_port m port =
-    record { name = net_name (net_of m port.net); dir = port.dir; range = net_range (net_of m port.net) }
+    record {
+      name = net_name (net_of m port.net);
+      dir = port.dir;
+      range = net_range (net_of m port.net);
+    }
 
 abbrev pub named_inst : Plain → PModule → PInst → NamedInst
 named_inst M m inst = record {

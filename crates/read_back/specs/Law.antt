@@ -21,7 +21,8 @@ pub record ReadsBack (M : Plain) : Type 0 where
   pub no_fault : (fault : ReadFault) → HasReadFault no_modules false (written M) fault → ⊥
   pub sound : IsSound made
   pub same : named_table made ≡ named_table M
-  pub flat : (top other : ModId) (m n : PModule) → module_of M top ≡ Some m → module_of made other ≡ Some n
+  pub flat : (top other : ModId) (m n : PModule) → module_of M top ≡ Some m
+      → module_of made other ≡ Some n
       → n.name ≡ m.name → flat_lines made other ≡ flat_lines M top
 
 -- each sound table reads back, whose counter is in range and whose names are names

@@ -3,15 +3,16 @@ ghost use Rattle.flatten_rules.specs.Lookup.{module_of};
 ghost use Rattle.flatten_rules.specs.Design.{IsInner};
 ghost use Rattle.flatten_rules.specs.Sound.{IsSound};
 
+use crate::made::{MADE, MADE_WRITTEN};
 use crate::sources::SOURCES;
 use emh_base::{List, ModId, NoMemory, Plain};
 use flatten_rules::{flat_lines, is_sound, is_within, module_of};
+use samples::designs::state_of;
 use std::alloc::Global;
 use std::str::from_utf8;
 use std::test::Fail;
-use vlog_elab::elab;
-use vlog_lex::{FILE_LIMIT, tokens};
-use vlog_read::parse;
+use vlog_elab::read_netlist;
+use vlog_lex::FILE_LIMIT;
 use vlog_write::{write_cells, write_modules};
 
 /// The table of a netlist.
@@ -25,9 +26,7 @@ fn read(alloc: Global, text: &[u8]) -> Result<Plain, Fail>
     is_sound(alloc, &none)?
         .then_some(())
         .ok_or("no sound table")?;
-    let read = tokens(alloc, &text[..text.len().min(FILE_LIMIT)])?;
-    let tree = parse(alloc, &read)?;
-    match elab(alloc, &none, &tree, false) {
+    match read_netlist(alloc, &none, &text[..text.len().min(FILE_LIMIT)], false) {
         Ok(made) => Ok(made),
         Err(fault) => Err(fault.into()),
     }
@@ -94,6 +93,26 @@ fn netlists_are_written_and_read_again(rt: HostRuntime) -> Result<(), Fail> {
         );
         let text_again = written(&again)?;
         assert_eq!(rt; from_utf8(text_again.as_slice())?, source.written);
+    }
+    Ok(())
+}
+
+/// Ids, counters and locks aren't written: a table with gaps in all of them reads back with none.
+#[test]
+fn ids_and_locks_are_not_written(rt: HostRuntime) -> Result<(), Fail> {
+    let made = state_of(rt.alloc(), &MADE)?.plain;
+    assert!(rt; is_sound(rt.alloc(), &made)?);
+    let text = written(&made)?;
+    assert_eq!(rt; from_utf8(text.as_slice())?, MADE_WRITTEN);
+    let again = read(rt.alloc(), text.as_slice())?;
+    let lines = flattened(rt.alloc(), &made, b"held")?;
+    let lines_again = flattened(rt.alloc(), &again, b"held")?;
+    assert_eq!(rt;
+        from_utf8(lines_again.as_slice())?,
+        from_utf8(lines.as_slice())?
+    );
+    for (at, holder) in again.modules.as_slice().iter().enumerate() {
+        assert!(rt; holder.id.0 as usize == at && !holder.locked);
     }
     Ok(())
 }
