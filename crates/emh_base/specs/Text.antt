@@ -1,6 +1,8 @@
 use Rattle.std.specs.Prelude.{ℕ, ◌+◌, ◌-◌, ◌==◌, Bool, true, false, ◌||◌, nat_lt, List, [], ◌∷◌, ◌++◌, map, Option, Some, None, if◌then◌else◌, codes}
 use Rattle.std.specs.List.{flat_map, join_with_byte}
 use Rattle.std.specs.Fmt.{decimal}
+use Rattle.emh_base.specs.declared.plain.Dir.{Dir}
+use Rattle.emh_base.specs.declared.plain.Dir.TheVariants.{Input, Output, Inout}
 use Rattle.emh_base.specs.declared.plain.Range.{Range}
 
 -- The texts of names and of what they name. They are this project's own, and each is the text of one object only.
@@ -34,6 +36,12 @@ path_text (name ∷ names) = join_with_byte 47 (map spell (name ∷ names))
 -- what stands before the name of a net at a path: nothing at the top
 abbrev pub front_text : List (List ℕ) → List ℕ
 front_text names = flat_map (λ name. spell name ++ 47 ∷ []) names
+
+-- the direction of a port
+abbrev pub dir_text : Dir → List ℕ
+dir_text Input = codes "input"
+dir_text Output = codes "output"
+dir_text Inout = codes "inout"
 
 -- the index of a bit by its offset from the left
 abbrev pub index_of : Range → ℕ → ℕ

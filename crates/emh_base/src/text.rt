@@ -5,7 +5,7 @@ ghost use Rattle.emh_base.specs.Text.{is_special, marked, spell, index_text};
 use crate::list::List;
 use crate::memory::NoMemory;
 use crate::name::Name;
-use crate::plain::Range;
+use crate::plain::{Dir, Range};
 
 /// Puts the spelled text of a name last: a `\` stands before each `/`, `[`, `]`, `.` and `\`, and before a `=` that is
 /// its first byte. This project's own. After want of memory the text is as before.
@@ -78,6 +78,21 @@ impl Range {
             u64::from(self.left.saturating_sub(u32::from(offset)))
         } else {
             u64::from(self.left) + u64::from(offset)
+        }
+    }
+}
+
+impl Dir {
+    ghost use Rattle.emh_base.specs.Text.{dir_text};
+
+    /// The word for the direction, as netlists, scripts and reports write it.
+    pub fn word(self) -> &'static [u8]
+        ensures { result.now ≡ dir_text self }
+    {
+        match self {
+            Dir::Input => b"input",
+            Dir::Output => b"output",
+            Dir::Inout => b"inout",
         }
     }
 }

@@ -3,22 +3,15 @@
 use Rattle.std.specs.Prelude.{ℕ, List, [], ◌++◌, map, Option, Some, None, codes}
 use Rattle.std.specs.List.{flat_map}
 use Rattle.emh_base.specs.declared.ids.ModId.{ModId}
-use Rattle.emh_base.specs.declared.plain.Dir.{Dir}
-use Rattle.emh_base.specs.declared.plain.Dir.TheVariants.{Input, Output, Inout}
 use Rattle.emh_base.specs.declared.plain.PPort.{PPort}
 use Rattle.emh_base.specs.declared.plain.PModule.{PModule}
 use Rattle.emh_base.specs.declared.plain.Plain.{Plain}
-use Rattle.emh_base.specs.Text.{spell}
+use Rattle.emh_base.specs.Text.{dir_text, spell}
 use Rattle.flatten_rules.specs.Lookup.{module_of}
 use Rattle.flatten_rules.specs.Unfolding.{Occurrence}
 use Rattle.flatten_rules.specs.Domains.{NetBit, Pin, offsets, terminals, block_instances, block_nets, pins, root_of_pin}
 use Rattle.flatten_rules.specs.Texts.{PathAt, BitAt, PinAt, text_of, net_up, root_text}
 use Rattle.flatten_rules.specs.Sorted.{sorted}
-
-abbrev pub dir_text : Dir → List ℕ
-dir_text Input = codes "input"
-dir_text Output = codes "output"
-dir_text Inout = codes "inout"
 
 abbrev pub module_text : Option PModule → List ℕ
 module_text None = []

@@ -6,7 +6,7 @@ ghost use Rattle.flatten_rules.specs.Domains.{is_own, terminals};
 ghost use Rattle.flatten_rules.specs.Sound.{IsSound};
 ghost use Rattle.flatten_rules.specs.Design.{IsGood};
 ghost use Rattle.flatten_rules.specs.Fresh.{inst_of, net_bit_of, fresh_pin_line};
-ghost use Rattle.flatten_rules.specs.FlatLines.{dir_text, module_text, term_line, term_lines, inst_line, net_line, flat_lines};
+ghost use Rattle.flatten_rules.specs.FlatLines.{module_text, term_line, term_lines, inst_line, net_line, flat_lines};
 
 use crate::domain::{FreshBit, FreshInst, FreshPin};
 use crate::flatten::unfold;
@@ -14,7 +14,7 @@ use crate::lookup::{module_of, width};
 use crate::port::all_port_places;
 use crate::sorting::sorted;
 use crate::tracer::Tracer;
-use emh_base::{Dir, List, ModId, NoMemory, PPort, Places, Plain, Root, push_spelled};
+use emh_base::{List, ModId, NoMemory, PPort, Places, Plain, Root, push_spelled};
 use std::alloc::Global;
 
 /// The flat netlist of a top, as lines without newlines, sorted by their bytes: `term NETBIT DIR` for each bit of its
@@ -100,18 +100,8 @@ fn term_line(
     let mut line = List::from_slice(alloc, b"term ".as_slice())?;
     tracer.push_net_bit(&[], port.net, offset, &mut line)?;
     line.push(b' ')?;
-    line.extend(dir_text(port.dir))?;
+    line.extend(port.dir.word())?;
     Ok(line)
-}
-
-fn dir_text(dir: Dir) -> &'static [u8]
-    ensures { result.now ≡ dir_text dir }
-{
-    match dir {
-        Dir::Input => b"input",
-        Dir::Output => b"output",
-        Dir::Inout => b"inout",
-    }
 }
 
 /// Puts the lines of the block instances last.

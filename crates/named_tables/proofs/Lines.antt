@@ -12,14 +12,14 @@ use Rattle.emh_base.specs.declared.plain.PNet.{PNet}
 use Rattle.emh_base.specs.declared.plain.PPort.{PPort}
 use Rattle.emh_base.specs.declared.plain.PModule.{PModule}
 use Rattle.emh_base.specs.declared.plain.Plain.{Plain}
-use Rattle.emh_base.specs.Text.{spell, path_text, bit_text, pin_text}
+use Rattle.emh_base.specs.Text.{dir_text, spell, path_text, bit_text, pin_text}
 use Rattle.flatten_rules.specs.Lookup.{module_of, net_of, width}
 use Rattle.flatten_rules.specs.Design.{module_named}
 use Rattle.flatten_rules.specs.Unfolding.{Occurrence, occurrences, module_up}
 use Rattle.flatten_rules.specs.Domains.{NetBit, Pin, bits_of_net, bits_inside, net_bits, root_of, is_leaf, block_instances, is_own, block_nets, offsets, port_net, ports_of, pins_of_port, pins, terminals}
 use Rattle.flatten_rules.specs.Texts.{names_up, net_up, net_bit_text, port_bit_text, root_text}
 use Rattle.flatten_rules.specs.Root.{root_up, pin_root}
-use Rattle.flatten_rules.specs.FlatLines.{dir_text, module_text, term_line, inst_line, net_line, pin_line, term_lines}
+use Rattle.flatten_rules.specs.FlatLines.{module_text, term_line, inst_line, net_line, pin_line, term_lines}
 use Rattle.flatten_rules.specs.Sound.{IsSound, IsSoundModule}
 use Rattle.flatten_rules.proofs.Sound.{All-find}
 use Rattle.flatten_rules.proofs.Walks.{some-there, find-own, up-own, same-some, id-of_found}

@@ -6,7 +6,7 @@ use Rattle.std.proofs.lemmas.Bool.{and_parts, both_ways}
 use Rattle.std.proofs.lemmas.Bool.Decides.{nat_tests}
 use Rattle.std.proofs.lemmas.List.Folds.{list_all-append}
 use Rattle.emh_base.specs.Name.{IsName, is_name_byte}
-use Rattle.emh_base.specs.Text.{is_special, marked, spelled, spelled_first, spell, path_text, front_text}
+use Rattle.emh_base.specs.Text.{dir_text, is_special, marked, spelled, spelled_first, spell, path_text, front_text}
 use Rattle.emh_base.specs.declared.plain.Range.{Range}
 use Rattle.emh_base.specs.declared.plain.Dir.{Dir}
 use Rattle.emh_base.specs.declared.plain.Dir.TheVariants.{Input, Output, Inout}
@@ -22,7 +22,7 @@ use Rattle.script_read.specs.Script.{is_line_byte, is_blank, words_in, without_r
 use Rattle.script_read.specs.Table.{command_of}
 use Rattle.script_read.specs.Written.{Field, File, Name, Number, Signed, MaybeRange, Direction, Oriented, Standing, Bits, Path, NetBit, Word, words_of, fields_of, words_by, IsField, IsSigned, IsIndex, Passes, is_some_word}
 use Rattle.script_read.specs.Written.{IsRange, IsSelect, IsBitWord}
-use Rattle.script_read.specs.Text.{pair_text, range_text, select_text, bit_text, dir_text, orient_text, status_text, index_text}
+use Rattle.script_read.specs.Text.{pair_text, range_text, select_text, bit_text, orient_text, status_text, index_text}
 use Rattle.script_read.specs.declared.command.BitWord.{BitWord}
 use Rattle.script_read.specs.declared.command.BitWord.TheVariants.{Zero, One, Net}
 use Rattle.script_read.proofs.WordTexts.{decimal_digits}

@@ -3,7 +3,7 @@ use Rattle.std.proofs.Common.{◌≡◌, refl, sym, ap, List, [], ◌∷◌, ◌
 use Rattle.std.proofs.Common.{Bor, ◌∙◌}
 use Rattle.std.proofs.lemmas.List.{map-append}
 use Rattle.emh_base.specs.declared.report.Kind.{Kind}
-use Rattle.script_read.specs.inside.Texts.{texts}
+use Rattle.word_table.specs.Texts.{texts}
 use Rattle.script_read.specs.Word.{name_of, names_of, with_name, pieces, net_bit_in, net_bit_after}
 
 -- what the last piece says at the instances that the names before it lead to

@@ -5,7 +5,7 @@ use Rattle.std.specs.Fmt.{decimal, signed_decimal}
 use Rattle.std.proofs.lemmas.Bool.{and_parts}
 use Rattle.std.proofs.lemmas.List.Folds.{list_all-append}
 use Rattle.emh_base.specs.Name.{IsName}
-use Rattle.emh_base.specs.Text.{spell, front_text}
+use Rattle.emh_base.specs.Text.{dir_text, spell, front_text}
 use Rattle.emh_base.specs.declared.plain.Dir.{Dir}
 use Rattle.emh_base.specs.declared.plain.Dir.TheVariants.{Input, Output, Inout}
 use Rattle.emh_base.specs.declared.placement.Orient.{Orient}
@@ -19,7 +19,7 @@ use Rattle.script_read.specs.declared.command.Command.TheVariants as command
 use Rattle.script_read.specs.Word.{is_digit, number_within, signed_of, minus, file_of, dir_of, orient_of, status_of, pieces, net_bit_of, net_bit_after, net_bit_in}
 use Rattle.script_read.specs.Form.{bits_of}
 use Rattle.script_read.specs.Table.{says_of, is_built, command_of}
-use Rattle.script_read.specs.Text.{bit_text, dir_text, orient_text, status_text, index_text, net_bit_text}
+use Rattle.script_read.specs.Text.{bit_text, orient_text, status_text, index_text, net_bit_text}
 use Rattle.script_read.specs.Written.{IsBitWord}
 use Rattle.script_read.specs.Written.{IsWritable, IsSigned, IsIndex, words_by}
 use Rattle.script_read.proofs.Pieces.{is_inner, one_piece, name_passes}

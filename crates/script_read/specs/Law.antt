@@ -1,7 +1,7 @@
 -- The laws of reading: what is written for a value, for the words of a command and for its line reads as it.
-use Rattle.std.specs.Prelude.{◌≡◌, ℕ, ◌<◌, ◌^◌, List, Some}
+use Rattle.std.specs.Prelude.{◌≡◌, ℕ, ◌<◌, ◌^◌, List, Some, IsTrue, bytes_eq}
 use Rattle.std.specs.Fmt.{decimal}
-use Rattle.std.specs.List.{AllByRecursion}
+use Rattle.std.specs.List.{AllByRecursion, list_all, list_any}
 use Rattle.emh_base.specs.Name.{IsName}
 use Rattle.emh_base.specs.Text.{spell, path_text}
 use Rattle.emh_base.specs.declared.plain.Range.{Range}
@@ -9,7 +9,8 @@ use Rattle.script_read.specs.declared.command.BitWord.{BitWord}
 use Rattle.script_read.specs.declared.command.Command.{Command}
 use Rattle.script_read.specs.Word.{name_of, number_of, range_of, bit_of, path_of}
 use Rattle.script_read.specs.Text.{range_text, bit_text}
-use Rattle.script_read.specs.Table.{command_of}
+use Rattle.word_table.specs.LineWords.{line_texts}
+use Rattle.script_read.specs.Table.{command_of, netlist_rows}
 use Rattle.script_read.specs.Written.{IsRange, IsBitWord, words_by}
 use Rattle.script_read.specs.declared.lines.Says.TheVariants.{Asks}
 use Rattle.script_read.specs.Script.{line_says, line_text}
@@ -36,3 +37,7 @@ EachLineReads = (line : List ℕ) (words : List (List ℕ)) (command : Command) 
 abbrev pub EachLineAsksOnce : Type 0
 EachLineAsksOnce = (line : List ℕ) (words others : List (List ℕ)) (command other : Command)
     → line_says line ≡ Asks words command → line_says line ≡ Asks others other → (words ≡ others) × (command ≡ other)
+
+-- each first word of the table of lines stands among the words with which a line may begin
+abbrev pub FirstWordsAreKnown : Type 0
+FirstWordsAreKnown = IsTrue (list_all (λ row. list_any (bytes_eq row.0) line_texts) netlist_rows)

@@ -2,8 +2,6 @@
 use Rattle.std.specs.Prelude.{ℕ, List, [], ◌∷◌, ◌++◌, Option, Some, None, codes}
 use Rattle.std.specs.Fmt.{decimal}
 use Rattle.emh_base.specs.Text.{spell, front_text}
-use Rattle.emh_base.specs.declared.plain.Dir.{Dir}
-use Rattle.emh_base.specs.declared.plain.Dir.TheVariants.{Input, Output, Inout}
 use Rattle.emh_base.specs.declared.placement.Orient.{Orient}
 use Rattle.emh_base.specs.declared.placement.Orient.TheVariants.{R0, R90, R180, R270, MX, MY, MXR90, MYR90}
 use Rattle.emh_base.specs.declared.placement.Status.{Status}
@@ -34,11 +32,6 @@ index_text (Some index) = 91 ∷ decimal index ++ 93 ∷ []
 
 abbrev pub net_bit_text : List (List ℕ) → List ℕ → Option ℕ → List ℕ
 net_bit_text path net index = front_text path ++ (spell net ++ index_text index)
-
-abbrev pub dir_text : Dir → List ℕ
-dir_text Input = codes "input"
-dir_text Output = codes "output"
-dir_text Inout = codes "inout"
 
 abbrev pub orient_text : Orient → List ℕ
 orient_text R0 = codes "R0"

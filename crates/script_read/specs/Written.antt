@@ -3,7 +3,7 @@ use Rattle.std.specs.Prelude.{Bool, true, false, ◌&&◌, ℕ, ℤ, ◌<◌, �
 use Rattle.std.specs.List.{AllByRecursion, list_all}
 use Rattle.std.specs.Fmt.{decimal, signed_decimal}
 use Rattle.emh_base.specs.Name.{IsName, is_name_byte}
-use Rattle.emh_base.specs.Text.{spell, path_text}
+use Rattle.emh_base.specs.Text.{dir_text, spell, path_text}
 use Rattle.emh_base.specs.declared.plain.Range.{Range}
 use Rattle.emh_base.specs.declared.plain.Dir.{Dir}
 use Rattle.emh_base.specs.declared.placement.Orient.{Orient}
@@ -13,7 +13,7 @@ use Rattle.emh_base.specs.declared.report.Kind.TheVariants as report
 use Rattle.script_read.specs.declared.command.BitWord.{BitWord}
 use Rattle.script_read.specs.declared.command.Command.{Command}
 use Rattle.script_read.specs.declared.command.Command.TheVariants as command
-use Rattle.script_read.specs.Text.{range_text, bit_text, dir_text, orient_text, status_text, net_bit_text}
+use Rattle.script_read.specs.Text.{range_text, bit_text, orient_text, status_text, net_bit_text}
 use Rattle.script_read.specs.declared.command.BitWord.TheVariants.{Zero, One, Net}
 
 -- values that words can say

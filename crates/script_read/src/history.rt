@@ -1,5 +1,5 @@
 ghost use Rattle.std.specs.Prelude.{◌≡◌, IfOk};
-ghost use Rattle.script_read.specs.inside.Texts.{texts};
+ghost use Rattle.word_table.specs.Texts.{texts};
 ghost use Rattle.script_read.specs.Table.{undo_form, redo_form, form_in, history_rows};
 
 use crate::command::Command;

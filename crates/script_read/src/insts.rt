@@ -1,5 +1,5 @@
 ghost use Rattle.std.specs.Prelude.{◌≡◌, IfOk};
-ghost use Rattle.script_read.specs.inside.Texts.{texts};
+ghost use Rattle.word_table.specs.Texts.{texts};
 ghost use Rattle.script_read.specs.Form.{bits_of};
 ghost use Rattle.script_read.specs.Table.{create_inst_form, delete_inst_form, connect_form, disconnect_form, rename_inst_form, resize_form, uniquify_form, pin_form, form_in, inst_rows};
 

@@ -1,4 +1,4 @@
-ghost use Rattle.script_read.specs.Law.{EachWordReads, EachCommandReads, EachLineReads, EachLineAsksOnce};
+ghost use Rattle.script_read.specs.Law.{EachWordReads, EachCommandReads, EachLineReads, EachLineAsksOnce, FirstWordsAreKnown};
 
 /// The word that is written for a value says that value. The contract is what this is for.
 pub fn each_word_reads()
@@ -18,4 +18,10 @@ pub fn each_line_reads()
 /// A line asks for one command at most. The contract is what this is for.
 pub fn each_line_asks_once()
     ensures { EachLineAsksOnce }
+{}
+
+/// The first words of the lines that are read stand among those that `word_table` lists for all lines, those to come too.
+/// The contract is what this is for.
+pub fn first_words_are_known()
+    ensures { FirstWordsAreKnown }
 {}

@@ -24,7 +24,10 @@ mod text;
 mod word;
 
 pub use command::{BitWord, Command};
-pub use laws::{each_command_reads, each_line_asks_once, each_line_reads, each_word_reads};
+pub use laws::{
+    each_command_reads, each_line_asks_once, each_line_reads, each_word_reads,
+    first_words_are_known,
+};
 pub use lines::{LINE_LIMIT, Line, Script, ScriptFault, script};
 pub use resolving::resolve;
 pub use text::text_of;

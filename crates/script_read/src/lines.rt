@@ -1,6 +1,6 @@
 ghost use Rattle.std.specs.Prelude.{◌≡◌, ◌==◌, ◌+◌, ◌≤◌, length, slice_index, IfOk};
 ghost use Rattle.std.specs.List.{list_all, count_by, slice_split};
-ghost use Rattle.script_read.specs.inside.Texts.{texts};
+ghost use Rattle.word_table.specs.Texts.{texts};
 ghost use Rattle.script_read.specs.Written.{is_some_word};
 ghost use Rattle.script_read.specs.Script.{IsScriptAnswer, is_blank, is_line_byte, line_says, lines_from, lines_of, script_of, without_return, words_in, words_say};
 

@@ -1,5 +1,5 @@
 ghost use Rattle.std.specs.Prelude.{◌≡◌, IfOk};
-ghost use Rattle.script_read.specs.inside.Texts.{texts};
+ghost use Rattle.word_table.specs.Texts.{texts};
 ghost use Rattle.script_read.specs.Table.{create_module_form, delete_module_form, rename_module_form, lock_form, unlock_form, form_in, module_rows};
 
 use crate::command::Command;

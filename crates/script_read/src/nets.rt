@@ -1,5 +1,5 @@
 ghost use Rattle.std.specs.Prelude.{◌≡◌, IfOk};
-ghost use Rattle.script_read.specs.inside.Texts.{texts};
+ghost use Rattle.word_table.specs.Texts.{texts};
 ghost use Rattle.script_read.specs.Table.{create_net_form, delete_net_form, create_port_form, delete_port_form, rename_net_form, port_form, form_in, net_rows};
 
 use crate::command::Command;

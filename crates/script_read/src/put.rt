@@ -2,8 +2,8 @@
 
 ghost use Rattle.std.specs.Prelude.{◌≡◌, ℕ, ℤ, ◌∷◌, ◌++◌, List, codes, OnOk};
 ghost use Rattle.std.specs.Fmt.{decimal, signed_decimal};
-ghost use Rattle.emh_base.specs.Text.{front_text, path_text, spell};
-ghost use Rattle.script_read.specs.Text.{bit_text, dir_text, index_text, net_bit_text, orient_text, range_text, select_text, status_text};
+ghost use Rattle.emh_base.specs.Text.{dir_text, front_text, path_text, spell};
+ghost use Rattle.script_read.specs.Text.{bit_text, index_text, net_bit_text, orient_text, range_text, select_text, status_text};
 ghost use Rattle.script_read.specs.inside.Line.{bits_text, steps_text, tail_text};
 ghost use Rattle.script_read.specs.Written.{range_words};
 
@@ -42,14 +42,7 @@ pub fn put_signed(line: &mut List<u8>, number: i32) -> Result<(), NoMemory>
 pub fn put_dir(line: &mut List<u8>, dir: Dir) -> Result<(), NoMemory>
     ensures { OnOk result (line.new ≡ line.old ++ 32 ∷ dir_text dir) }
 {
-    put_bytes(
-        line,
-        match dir {
-            Dir::Input => b"input".as_slice(),
-            Dir::Output => b"output".as_slice(),
-            Dir::Inout => b"inout".as_slice(),
-        },
-    )
+    put_bytes(line, dir.word())
 }
 
 pub fn put_orient(line: &mut List<u8>, orient: Orient) -> Result<(), NoMemory>

@@ -1,5 +1,5 @@
 ghost use Rattle.std.specs.Prelude.{◌≡◌, IfOk};
-ghost use Rattle.script_read.specs.inside.Texts.{texts};
+ghost use Rattle.word_table.specs.Texts.{texts};
 ghost use Rattle.script_read.specs.Form.{plain_kind};
 ghost use Rattle.script_read.specs.Table.{report_form, net_bit_form, where_form, kind_form, form_in, report_rows};
 

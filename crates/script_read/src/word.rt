@@ -1,7 +1,7 @@
 ghost use Rattle.std.specs.Prelude.{◌≡◌, ◌-◌, ◌+◌, length, map, position, [], Some, None, IfOk, option_map, option_and_then, slice_index, take};
 ghost use Rattle.std.specs.List.{list_all};
 ghost use Rattle.emh_base.specs.Name.{is_name_byte};
-ghost use Rattle.script_read.specs.inside.Texts.{texts};
+ghost use Rattle.word_table.specs.Texts.{texts};
 ghost use Rattle.script_read.specs.Word.{file_of, is_name, name_of, is_stop, is_mark, pieces, before_bracket, is_colon, pair_of, select_of, range_at, range_in, range_of, bits_in, net_word, bit_of, names_of, path_of, net_bit_in, net_bit_after, net_bit_of, dir_of, orient_of, status_of, number_of, range_between};
 
 use crate::command::BitWord;

@@ -186,15 +186,41 @@ fn lines_of_other_forms_are_bad(rt: HostRuntime) {
     }
 }
 
+/// What stands before a word of many bytes, and what behind it.
+const AROUND: &[(&[u8], &[u8])] = &[
+    (b"lock ", b""),
+    (b"write ", b""),
+    (b"cells ", b""),
+    (b"load ", b" m"),
+    (b"compare ", b" m"),
+];
+
 #[test]
 fn names_and_files_have_at_most_1024_bytes(rt: HostRuntime) -> Result<(), Fail> {
-    for word in [b"lock ".as_slice(), b"write ".as_slice()] {
-        let longest = long(rt.alloc(), word, 1024)?;
+    for (before, behind) in AROUND {
+        let mut longest = long(rt.alloc(), before, 1024)?;
+        longest.extend(behind)?;
         let bad = is_bad(rt.alloc(), longest.as_slice());
         assert!(rt; !bad);
-        let longer = long(rt.alloc(), word, 1025)?;
+        let mut longer = long(rt.alloc(), before, 1025)?;
+        longer.extend(behind)?;
         let bad = is_bad(rt.alloc(), longer.as_slice());
         assert!(rt; bad);
     }
+    Ok(())
+}
+
+/// A name of 1,024 bytes, each of them marked, is a word of 2,048 bytes.
+#[test]
+fn a_marked_byte_of_a_name_counts_once(rt: HostRuntime) -> Result<(), Fail> {
+    let mut line = List::from_slice(rt.alloc(), b"lock ")?;
+    for _ in 0..1024 {
+        line.extend(b"\\.")?;
+    }
+    let bad = is_bad(rt.alloc(), line.as_slice());
+    assert!(rt; !bad);
+    line.extend(b"\\.")?;
+    let bad = is_bad(rt.alloc(), line.as_slice());
+    assert!(rt; bad);
     Ok(())
 }

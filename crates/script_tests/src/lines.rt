@@ -3,7 +3,8 @@ use script_read::{Line, ScriptFault, script, text_of};
 use std::alloc::Global;
 use std::test::Fail;
 
-/// A line, and the line that is written for what it asks for.
+/// A line, and the line that is written for what it asks for. No two commands have one written line (it reads as its own
+/// command alone), so each comparison is one of commands. The lines of the worked rows stand last.
 const LINES: &[(&[u8], &[u8])] = &[
     (b"load n1.v top", b"load n1.v top"),
     (b"load a\\/b \\=x", b"load a\\/b \\=x"),
@@ -73,6 +74,20 @@ const LINES: &[(&[u8], &[u8])] = &[
     (b"set_fanout 0000000004 BUF", b"set_fanout 4 BUF"),
     (b"set_fanout 4294967295 BUF", b"set_fanout 4294967295 BUF"),
     (b"set_grid 0", b"set_grid 0"),
+    (b"create_inst pair u3 INV", b"create_inst pair u3 INV"),
+    (b"disconnect top q a", b"disconnect top q a"),
+    (b"connect top q a w", b"connect top q a w"),
+    (b"connect top p a =1", b"connect top p a =1"),
+    (
+        b"place q/u1 -2147483648 2147483647 MXR90 Placed",
+        b"place q/u1 -2147483648 2147483647 MXR90 Placed",
+    ),
+    (b"resize pair u1 BUF", b"resize pair u1 BUF"),
+    (b"place q/u1 5 6 R0 Placed", b"place q/u1 5 6 R0 Placed"),
+    (b"uniquify top q pair_q", b"uniquify top q pair_q"),
+    (b"rename_inst pair_q u1 v1", b"rename_inst pair_q u1 v1"),
+    (b"place q/u2 1 2 MX Placed", b"place q/u2 1 2 MX Placed"),
+    (b"delete_inst top q", b"delete_inst top q"),
 ];
 
 /// A script, and for each line that asks for a command its number, how many words it has, and the line

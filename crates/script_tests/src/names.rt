@@ -1,72 +1,75 @@
 use edit_rules::{Judged, is_good_state};
-use emh_base::{
-    Conn, Dir, Edit, InstId, List, ModId, Name, NetId, Object, PInst, PModule, PNet, PPort, Places,
-    Plain, Range, Refusal, Rule, Settings, Src, State,
-};
+use emh_base::{Dir, Edit, ModId, NetId, Object, Refusal, Rule, Src, State};
+use samples::designs::{BARE, Design, state_of};
+use samples::modules::{Conns, EMPTY, Module, Port};
 use script_read::{resolve, script};
 use std::alloc::Global;
 use std::process::Abort;
 use std::test::Fail;
 
-/// A module: its name, its nets with their ranges, how many of them are ports, and its instances with their masters. A
-/// leaf has as many ports as nets.
-struct Module {
-    name: &'static [u8],
-    leaf: bool,
-    nets: &'static [(&'static [u8], Option<Range>)],
-    ports: usize,
-    insts: &'static [(&'static [u8], u32)],
-}
+/// A leaf of two ports of one bit.
+const INV: Module = Module {
+    id: 0,
+    name: "INV",
+    leaf: true,
+    nets: &[(0, "A", None), (1, "Y", None)],
+    ports: IN_OUT,
+    next_net: 2,
+    ..EMPTY
+};
 
-/// The modules, by their ids. Each connection is open.
-const DESIGN: &[Module] = &[
-    Module {
-        name: b"INV",
-        leaf: true,
-        nets: &[(b"A", None), (b"Y", None)],
-        ports: 2,
-        insts: &[],
-    },
-    Module {
-        name: b"BUS",
-        leaf: true,
-        nets: &[
-            (b"A", Some(Range { left: 1, right: 0 })),
-            (b"Y", Some(Range { left: 0, right: 3 })),
-        ],
-        ports: 2,
-        insts: &[],
-    },
-    Module {
-        name: b"pair",
-        leaf: false,
-        nets: &[(b"a", None), (b"y", None), (b"m", None)],
-        ports: 2,
-        insts: &[(b"u1", 0), (b"u2", 0)],
-    },
-    Module {
-        name: b"top",
-        leaf: false,
-        nets: &[
-            (b"i", None),
-            (b"o", None),
-            (b"w", None),
-            (b"f", Some(Range { left: 7, right: 4 })),
-            (b"r", Some(Range { left: 4, right: 7 })),
-            (
-                b"n",
-                Some(Range {
-                    left: 4095,
-                    right: 0,
-                }),
-            ),
-        ],
-        ports: 2,
-        insts: &[(b"p", 2), (b"q", 2), (b"b", 1)],
-    },
-];
+/// A leaf of two buses, one that falls and one that rises.
+const BUS: Module = Module {
+    id: 1,
+    name: "BUS",
+    leaf: true,
+    nets: &[(0, "A", Some((1, 0))), (1, "Y", Some((0, 3)))],
+    ports: IN_OUT,
+    next_net: 2,
+    ..EMPTY
+};
 
-const TOP: ModId = ModId(3);
+const PAIR: Module = Module {
+    id: 2,
+    name: "pair",
+    nets: &[(0, "a", None), (1, "y", None), (2, "m", None)],
+    ports: IN_OUT,
+    insts: &[(0, "u1", 0, OPEN), (1, "u2", 0, OPEN)],
+    next_net: 3,
+    next_inst: 2,
+    ..EMPTY
+};
+
+/// The top, with nets of all kinds of range.
+const TOP: Module = Module {
+    id: 3,
+    name: "top",
+    nets: &[
+        (0, "i", None),
+        (1, "o", None),
+        (2, "w", None),
+        (3, "f", Some((7, 4))),
+        (4, "r", Some((4, 7))),
+        (5, "n", Some((4095, 0))),
+    ],
+    ports: IN_OUT,
+    insts: &[(0, "p", 2, OPEN), (1, "q", 2, OPEN), (2, "b", 1, OPEN)],
+    next_net: 6,
+    next_inst: 3,
+    ..EMPTY
+};
+
+const IN_OUT: &[Port] = &[(0, Dir::Input), (1, Dir::Output)];
+
+/// Both ports of an instance are open.
+const OPEN: Conns = &[&[], &[]];
+
+const DESIGN: Design = Design {
+    modules: &[INV, BUS, PAIR, TOP],
+    next_module: 4,
+    top: 3,
+    ..BARE
+};
 
 /// A line, and the edit that it asks for.
 const FOUND: &[(&[u8], &str)] = &[
@@ -126,17 +129,24 @@ const REFUSED: &[(&[u8], Rule, u32)] = &[
     (b"delete_net x x", Rule::NoSuchModule, 1),
     (b"delete_net top x", Rule::NoSuchNet, 2),
     (b"delete_net top p", Rule::NoSuchNet, 2),
+    (b"rename_net x x w", Rule::NoSuchModule, 1),
     (b"rename_net top x w", Rule::NoSuchNet, 2),
+    (b"delete_port x x", Rule::NoSuchModule, 1),
     (b"delete_port top x", Rule::NoSuchPort, 2),
     (b"delete_port top w", Rule::NoSuchPort, 2),
     (b"create_inst x u x", Rule::NoSuchModule, 1),
     (b"create_inst top u x", Rule::NoSuchModule, 3),
+    (b"delete_inst x x", Rule::NoSuchModule, 1),
     (b"delete_inst top x", Rule::NoSuchInst, 2),
     (b"delete_inst top w", Rule::NoSuchInst, 2),
+    (b"rename_inst x x p", Rule::NoSuchModule, 1),
     (b"rename_inst top x p", Rule::NoSuchInst, 2),
+    (b"uniquify x x c", Rule::NoSuchModule, 1),
     (b"uniquify top x c", Rule::NoSuchInst, 2),
+    (b"resize x x x", Rule::NoSuchModule, 1),
     (b"resize top x x", Rule::NoSuchInst, 2),
     (b"resize top p x", Rule::NoSuchModule, 3),
+    (b"disconnect x x x", Rule::NoSuchModule, 1),
     (b"disconnect top x a", Rule::NoSuchInst, 2),
     (b"disconnect top p i", Rule::NoSuchPort, 3),
     (b"connect x p a =0", Rule::NoSuchModule, 1),
@@ -168,85 +178,6 @@ const WIDE: &[&[u8]] = &[
     b"connect top p a w n x",
     b"connect top p a n =1 x",
 ];
-
-fn name_of(alloc: Global, bytes: &[u8]) -> Result<Name, Fail> {
-    Ok(Name::new(alloc, bytes)?)
-}
-
-/// The nets of a module, with ids in their order.
-fn nets_of(alloc: Global, module: &Module) -> Result<List<PNet>, Fail> {
-    let mut nets = List::new(alloc);
-    for (id, (name, range)) in module.nets.iter().enumerate() {
-        nets.push(PNet {
-            id: NetId((id % 4096) as u32),
-            name: name_of(alloc, name)?,
-            range: *range,
-        })?;
-    }
-    Ok(nets)
-}
-
-/// The ports of a module, which are its first nets: an input, and then outputs.
-fn ports_of(alloc: Global, module: &Module) -> Result<List<PPort>, Fail> {
-    let mut ports = List::new(alloc);
-    for net in 0..module.ports.min(4096) {
-        ports.push(PPort {
-            net: NetId(net as u32),
-            dir: if net == 0 { Dir::Input } else { Dir::Output },
-        })?;
-    }
-    Ok(ports)
-}
-
-/// The instances of a module, with ids in their order. Each master has two ports.
-fn insts_of(alloc: Global, module: &Module) -> Result<List<PInst>, Fail> {
-    let mut insts = List::new(alloc);
-    for (id, (name, master)) in module.insts.iter().enumerate() {
-        let mut conns = List::new(alloc);
-        conns.push(Conn::Open)?;
-        conns.push(Conn::Open)?;
-        insts.push(PInst {
-            id: InstId((id % 4096) as u32),
-            name: name_of(alloc, name)?,
-            master: ModId(*master),
-            conns,
-        })?;
-    }
-    Ok(insts)
-}
-
-fn module_of(alloc: Global, id: u32, module: &Module) -> Result<PModule, Fail> {
-    Ok(PModule {
-        id: ModId(id),
-        name: name_of(alloc, module.name)?,
-        leaf: module.leaf,
-        locked: false,
-        nets: nets_of(alloc, module)?,
-        ports: ports_of(alloc, module)?,
-        insts: insts_of(alloc, module)?,
-        next_net: 6,
-        next_inst: 3,
-    })
-}
-
-fn state_of(alloc: Global) -> Result<State, Fail> {
-    let mut modules = List::new(alloc);
-    for (id, module) in DESIGN.iter().enumerate() {
-        modules.push(module_of(alloc, (id % 4096) as u32, module)?)?;
-    }
-    Ok(State {
-        plain: Plain {
-            modules,
-            next_module: 4,
-        },
-        top: TOP,
-        places: Places::new(alloc),
-        settings: Settings {
-            fanout: None,
-            grid: None,
-        },
-    })
-}
 
 /// What a line asks for, with its names looked up.
 fn looked(rt: &impl Abort, alloc: Global, state: &State, line: &[u8]) -> Result<Edit, Judged> {
@@ -289,7 +220,7 @@ fn is_source(bit: Src, source: Option<(u32, u16)>) -> bool {
 
 #[test]
 fn names_are_found(rt: HostRuntime) -> Result<(), Fail> {
-    let state = state_of(rt.alloc())?;
+    let state = state_of(rt.alloc(), &DESIGN)?;
     for (line, wanted) in FOUND {
         let edit = looked(&rt, rt.alloc(), &state, line)?;
         let text = format!(in rt.alloc(); "{edit:?}")?;
@@ -300,7 +231,7 @@ fn names_are_found(rt: HostRuntime) -> Result<(), Fail> {
 
 #[test]
 fn sources_are_found_leftmost_first(rt: HostRuntime) -> Result<(), Fail> {
-    let state = state_of(rt.alloc())?;
+    let state = state_of(rt.alloc(), &DESIGN)?;
     for (line, port, sources) in CONNECTED {
         let edit = looked(&rt, rt.alloc(), &state, line)?;
         let connected = is_connected(&edit, *port, sources);
@@ -311,7 +242,7 @@ fn sources_are_found_leftmost_first(rt: HostRuntime) -> Result<(), Fail> {
 
 #[test]
 fn the_first_word_that_names_nothing_refuses_the_line(rt: HostRuntime) -> Result<(), Fail> {
-    let state = state_of(rt.alloc())?;
+    let state = state_of(rt.alloc(), &DESIGN)?;
     for (line, rule, place) in REFUSED {
         let refused = looked(&rt, rt.alloc(), &state, line).err();
         let wanted = Judged::Rule(Refusal {
@@ -325,7 +256,7 @@ fn the_first_word_that_names_nothing_refuses_the_line(rt: HostRuntime) -> Result
 
 #[test]
 fn a_connection_has_at_most_4096_bits(rt: HostRuntime) -> Result<(), Fail> {
-    let state = state_of(rt.alloc())?;
+    let state = state_of(rt.alloc(), &DESIGN)?;
     let widest = looked(&rt, rt.alloc(), &state, b"connect top p a n")?;
     let all = matches!(&widest, Edit::Connect { bits, .. } if bits.len() == 4096);
     assert!(rt; all);

@@ -1,6 +1,6 @@
 use Rattle.std.proofs.Common.{ℕ, [], List, get_or, sym, ◌∙◌, arith, Bor}
 use Rattle.std.proofs.lemmas.List.{get_or-map, length-map}
-use Rattle.script_read.specs.inside.Texts.{texts}
+use Rattle.word_table.specs.Texts.{texts}
 use Rattle.script_read.specs.Form.{bits_of}
 use Rattle.script_read.proofs.BitWalks.{sources_end, sources_go_on}
 use Rattle.script_read.proofs.insts.bits_of.Goals as goal

@@ -1,6 +1,6 @@
 use Rattle.std.proofs.Common.{◌≡◌, ◌++◌, drop}
 use Rattle.std.specs.Prelude.{option_map}
-use Rattle.script_read.specs.inside.Texts.{texts}
+use Rattle.word_table.specs.Texts.{texts}
 use Rattle.script_read.specs.Form.{bits_of}
 use Rattle.script_read.proofs.insts.bits_of.Given as goal
 

@@ -1,6 +1,6 @@
 -- What was copied so far is the front of the words.
 use Rattle.std.proofs.Common.{◌≡◌, take}
-use Rattle.script_read.specs.inside.Texts.{texts}
+use Rattle.word_table.specs.Texts.{texts}
 use Rattle.script_read.proofs.lines.copied.Given as goal
 
 abbrev pub invariant-loop-word : goal.invariant-loop-word

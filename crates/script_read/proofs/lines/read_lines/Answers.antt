@@ -1,6 +1,6 @@
 use Rattle.std.proofs.Common.{ℕ, [], List, get_or, sym, ◌∙◌, arith, length-append, Bor}
 use Rattle.std.proofs.lemmas.List.{get_or-map, length-map}
-use Rattle.script_read.specs.inside.Texts.{texts}
+use Rattle.word_table.specs.Texts.{texts}
 use Rattle.script_read.proofs.Division.{lines_from-stops, lines_from-passes, lines_from-more}
 use Rattle.script_read.proofs.lines.read_lines.Goals as goal
 use Rattle.script_read.proofs.lines.read_lines.Goals.{in-Nothing, in-Asks+in_ok-push-in-Asks}

@@ -1,6 +1,6 @@
 use Rattle.std.proofs.Common.{◌≡◌, ◌+◌, ◌≤◌, length, drop}
 use Rattle.script_read.specs.Script.{lines_from, with_front}
-use Rattle.script_read.specs.inside.Texts.{texts}
+use Rattle.word_table.specs.Texts.{texts}
 use Rattle.script_read.proofs.lines.read_lines.Given as goal
 
 -- The lines so far stand in front of those that are left.

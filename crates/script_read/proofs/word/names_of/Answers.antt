@@ -1,6 +1,6 @@
 use Rattle.std.proofs.Common.{ℕ, [], List, get_or, sym, ◌∙◌, arith, Bor}
 use Rattle.std.proofs.lemmas.List.{get_or-map, length-map}
-use Rattle.script_read.specs.inside.Texts.{texts}
+use Rattle.word_table.specs.Texts.{texts}
 use Rattle.script_read.proofs.Naming.{walk_ends, walk_goes_on}
 use Rattle.script_read.proofs.word.names_of.Goals as goal
 

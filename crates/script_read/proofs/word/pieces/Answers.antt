@@ -1,7 +1,7 @@
 use Rattle.std.proofs.Common.{◌+◌, ◌∙◌, sym, arith}
 use Rattle.std.proofs.lemmas.List.{map-append}
 use Rattle.std.proofs.lemmas.List.Edits.{between_none}
-use Rattle.script_read.specs.inside.Texts.{texts}
+use Rattle.word_table.specs.Texts.{texts}
 use Rattle.script_read.specs.Word.{pieces}
 use Rattle.script_read.proofs.Pieces.{walk_stops, walk_goes_on}
 use Rattle.script_read.proofs.word.pieces.Goals as goal
