@@ -18,3 +18,6 @@ pub mod BlockNets
 pub mod NoModules
 pub mod Deciding
 pub mod PathOrder
+pub mod Steps
+pub mod Pending
+pub mod Left

@@ -21,3 +21,6 @@ pub mod Changes
 pub mod ModuleChanges
 pub mod NetChanges
 pub mod InstChanges
+pub mod Way
+pub mod Walking
+pub mod inside

@@ -21,6 +21,7 @@ mod sorting;
 mod soundness;
 mod texts;
 mod tracer;
+mod walk;
 
 pub use cycle::first_on_cycle;
 pub use domain::{Fresh, FreshBit, FreshInst, FreshOcc, FreshPin};
@@ -34,3 +35,4 @@ pub use lookup::{find, module_of, net_of, place_of_module, port_of, width};
 pub use numbered::{Numbered, place_of, rises};
 pub use port::port_places;
 pub use soundness::is_sound;
+pub use walk::{BitWalk, PinWalk, Walk, Way, WayRoot};

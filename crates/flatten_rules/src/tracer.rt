@@ -118,7 +118,7 @@ impl<'a> Tracer<'a> {
 }
 
 /// The source of a net's bit through an instance of its module.
-fn source_through(
+pub(crate) fn source_through(
     inst: &PInst,
     master: &PModule,
     places: &[Option<usize>],
