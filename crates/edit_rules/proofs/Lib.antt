@@ -17,7 +17,6 @@ pub mod MoreLemmas
 pub mod OutlineLemmas
 pub mod LeafLemmas
 pub mod AlikeLemmas
-pub mod TopLemmas
 pub mod GoodWalks
 pub mod GoodChecks
 pub mod GoodTables

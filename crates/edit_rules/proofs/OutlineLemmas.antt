@@ -286,11 +286,3 @@ pub grown-changed : (M : Plain) (name : List ℕ) (id master : ModId) → grown_
 grown-changed M name id master =
     let made : List PModule → Plain = λ modules. record { modules = modules; next_module = 0 } in
     ap made (sym (map-map (λ (m : PModule). cond (m.id.0 == id.0) (with_inst_alone name master [] m) m) (bare name) M.modules))
-
-grown-id : (name : List ℕ) (master : ModId) (m : PModule) (one : Bool) → (cond one (with_inst_alone name master [] (bare name m)) (bare name m)).id ≡ m.id
-grown-id name master m true = refl
-grown-id name master m false = refl
-
-pub grown-ids : (name : List ℕ) (id master : ModId) (xs : List PModule) → map (λ (m : PModule). m.id) (map (grown name id master) xs) ≡ map (λ (m : PModule). m.id) xs
-grown-ids name id master [] = refl
-grown-ids name id master (x ∷ xs) = ap₂ (λ (i : ModId) is. i ∷ is) (grown-id name master x (x.id.0 == id.0)) (grown-ids name id master xs)

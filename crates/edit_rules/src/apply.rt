@@ -24,22 +24,23 @@ use emh_base::{
     State, TryCopy,
 };
 use flatten_rules::module_of;
+use std::alloc::Global;
 
 /// Does an edit of a good state, asked for by the user, or tells the first rule that it breaks. After an error the
 /// state is as before. A good state stays good.
-pub fn apply_plain(state: &mut State, edit: &Edit) -> Result<Change, Judged>
+pub fn apply_plain(alloc: Global, state: &mut State, edit: &Edit) -> Result<Change, Judged>
     requires { IsGoodState state.old }
     ensures answers { Answers (apply state.old By.User edit.now) state.old result state.new }
     ensures good { IsGoodState state.new }
 {
-    apply_judged(state, edit)
+    apply_judged(alloc, state, edit)
 }
 
-fn apply_judged(state: &mut State, edit: &Edit) -> Result<Change, Judged>
+fn apply_judged(alloc: Global, state: &mut State, edit: &Edit) -> Result<Change, Judged>
     requires { IsGoodState state.old }
     ensures { Answers (apply state.old By.User edit.now) state.old result state.new }
 {
-    judge(state.plain.modules.alloc(), &*state, edit)?;
+    judge(alloc, &*state, edit)?;
     Ok(carry_out(state, edit)?)
 }
 

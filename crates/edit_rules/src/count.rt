@@ -11,6 +11,7 @@ ghost use Rattle.edit_rules.specs.Count.{weight_in, counted, level_of};
 use crate::limits::BIT_LIMIT;
 use emh_base::{List, ModId, NoMemory, PInst, PModule, Plain};
 use flatten_rules::{module_of, place_of_module};
+use std::alloc::Global;
 
 /// Numbers stop here: the greatest limit plus one.
 pub const STOP: u64 = BIT_LIMIT + 1;
@@ -87,6 +88,7 @@ fn above<X: Measure>(
 
 /// The numbers of the modules down to one level more.
 fn next_level<X: Measure>(
+    alloc: Global,
     plain: &Plain,
     measure: &X,
     level: &[u64],
@@ -96,7 +98,7 @@ fn next_level<X: Measure>(
     requires known { level.now ≡ level_of (X.weight measure.now) plain.now levels }
     ensures { IfOk result (λ made. made ≡ level_of (X.weight measure.now) plain.now (levels + 1)) }
 {
-    let mut made = List::new(plain.modules.alloc());
+    let mut made = List::new(alloc);
     for holder in plain.modules.as_slice() {
         made.push(above(plain, measure, level, levels, holder))?;
     }
@@ -105,13 +107,13 @@ fn next_level<X: Measure>(
 
 /// What each module counts with all below it, down to the last level that matters. Once a level more changes nothing,
 /// none does.
-fn last_level<X: Measure>(plain: &Plain, measure: &X) -> Result<List<u64>, NoMemory>
+fn last_level<X: Measure>(alloc: Global, plain: &Plain, measure: &X) -> Result<List<u64>, NoMemory>
     requires rise { AllPairs (λ (a b : PModule). a.id.0 < b.id.0) plain.now.modules }
     ensures { IfOk result (λ made. made ≡ level_of (X.weight measure.now) plain.now 257) }
 {
-    let mut level = no_level(plain)?;
+    let mut level = no_level(alloc, plain)?;
     for levels in 0..257 {
-        let more = next_level(plain, measure, level.as_slice(), levels)?;
+        let more = next_level(alloc, plain, measure, level.as_slice(), levels)?;
         if 0 < levels && are_same(more.as_slice(), level.as_slice()) {
             return Ok(level);
         }
@@ -128,10 +130,10 @@ pub fn are_same(more: &[u64], level: &[u64]) -> bool
 }
 
 /// What each module counts down to no level.
-pub fn no_level(plain: &Plain) -> Result<List<u64>, NoMemory>
+pub fn no_level(alloc: Global, plain: &Plain) -> Result<List<u64>, NoMemory>
     ensures { IfOk result (λ made. made ≡ map (λ (m : PModule). 0) plain.now.modules) }
 {
-    let mut made = List::new(plain.modules.alloc());
+    let mut made = List::new(alloc);
     for holder in plain.modules.as_slice() {
         made.push(nothing(holder))?;
     }
@@ -146,11 +148,16 @@ fn nothing(_: &PModule) -> u64
 }
 
 /// What an occurrence of a module counts with all below it.
-pub fn count<X: Measure>(plain: &Plain, measure: &X, top: ModId) -> Result<u64, NoMemory>
+pub fn count<X: Measure>(
+    alloc: Global,
+    plain: &Plain,
+    measure: &X,
+    top: ModId,
+) -> Result<u64, NoMemory>
     requires rise { AllPairs (λ (a b : PModule). a.id.0 < b.id.0) plain.now.modules }
     ensures { IfOk result (λ number. number ≡ counted (X.weight measure.now) plain.now 257 top) }
 {
-    let level = last_level(plain, measure)?;
+    let level = last_level(alloc, plain, measure)?;
     Ok(value_at(plain, measure, level.as_slice(), 257, top))
 }
 

@@ -12,6 +12,7 @@ ghost use Rattle.std.specs.List.{list_any};
 use crate::count::{are_same, no_level};
 use emh_base::{List, ModId, NoMemory, PInst, PModule, Plain};
 use flatten_rules::place_of_module;
+use std::alloc::Global;
 
 /// The height of a module, down to the levels of the list.
 fn height_at(plain: &Plain, level: &[u64], levels: u64, id: ModId) -> u64
@@ -52,13 +53,18 @@ fn above(plain: &Plain, level: &[u64], levels: u64, holder: &PModule) -> u64
 }
 
 /// The heights of the modules, down to one level more.
-fn next_level(plain: &Plain, level: &[u64], levels: u64) -> Result<List<u64>, NoMemory>
+fn next_level(
+    alloc: Global,
+    plain: &Plain,
+    level: &[u64],
+    levels: u64,
+) -> Result<List<u64>, NoMemory>
     requires rise { AllPairs (λ (a b : PModule). a.id.0 < b.id.0) plain.now.modules }
     requires known { level.now ≡ heights plain.now levels }
     requires few { levels < 257 }
     ensures { IfOk result (λ made. made ≡ heights plain.now (levels + 1)) }
 {
-    let mut made = List::new(plain.modules.alloc());
+    let mut made = List::new(alloc);
     for holder in plain.modules.as_slice() {
         made.push(above(plain, level, levels, holder))?;
     }
@@ -66,13 +72,13 @@ fn next_level(plain: &Plain, level: &[u64], levels: u64) -> Result<List<u64>, No
 }
 
 /// The heights of the modules, as far as they matter. Once a level more changes nothing, none does.
-fn last_level(plain: &Plain) -> Result<List<u64>, NoMemory>
+fn last_level(alloc: Global, plain: &Plain) -> Result<List<u64>, NoMemory>
     requires { AllPairs (λ (a b : PModule). a.id.0 < b.id.0) plain.now.modules }
     ensures { IfOk result (λ made. made ≡ heights plain.now 257) }
 {
-    let mut level = no_level(plain)?;
+    let mut level = no_level(alloc, plain)?;
     for levels in 0..257 {
-        let more = next_level(plain, level.as_slice(), levels)?;
+        let more = next_level(alloc, plain, level.as_slice(), levels)?;
         if are_same(more.as_slice(), level.as_slice()) {
             return Ok(level);
         }
@@ -82,11 +88,11 @@ fn last_level(plain: &Plain) -> Result<List<u64>, NoMemory>
 }
 
 /// Whether some walk of instances, from whichever module, has more than 256.
-pub fn is_too_deep(plain: &Plain) -> Result<bool, NoMemory>
+pub fn is_too_deep(alloc: Global, plain: &Plain) -> Result<bool, NoMemory>
     requires { AllPairs (λ (a b : PModule). a.id.0 < b.id.0) plain.now.modules }
     ensures { IfOk result (λ deep. deep ≡ is_too_deep plain.now) }
 {
-    let level = last_level(plain)?;
+    let level = last_level(alloc, plain)?;
     Ok(is_any_high(level.as_slice()))
 }
 

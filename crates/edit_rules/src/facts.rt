@@ -46,6 +46,11 @@ pub trait Facts {
         requires live { IsTrue (is_module (state self.now).plain id) }
         ensures { result ≡ is_locked (module_of (state self.now).plain id) };
 
+    /// The module at the top.
+    fn top(&self) -> ModId
+        requires { IsSound (state self.now).plain }
+        ensures { result ≡ (state self.now).top };
+
     fn is_top(&self, id: ModId) -> bool
         requires sound { IsSound (state self.now).plain }
         requires live { IsTrue (is_module (state self.now).plain id) }

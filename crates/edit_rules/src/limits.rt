@@ -7,6 +7,7 @@ ghost use Rattle.edit_rules.specs.Limits.{has_too_many_occurrences, has_too_many
 
 use crate::count::{Measure, STOP, count};
 use emh_base::{ModId, NoMemory, PModule, Plain, Range};
+use std::alloc::Global;
 
 /// The most occurrences that a top may unfold to. This project's own limit, as the next one is.
 pub const OCCURRENCE_LIMIT: u64 = 1_000_000;
@@ -105,28 +106,28 @@ fn width_of(range: Option<Range>) -> u64
 }
 
 /// Whether a top unfolds to more than 1,000,000 occurrences.
-pub fn has_too_many_occurrences(plain: &Plain, top: ModId) -> Result<bool, NoMemory>
+pub fn has_too_many_occurrences(alloc: Global, plain: &Plain, top: ModId) -> Result<bool, NoMemory>
     requires { AllPairs (λ (a b : PModule). a.id.0 < b.id.0) plain.now.modules }
     ensures { IfOk result (λ many. many ≡ has_too_many_occurrences plain.now top) }
 {
-    let occurrences = count(plain, &Occurrences {}, top)?;
+    let occurrences = count(alloc, plain, &Occurrences {}, top)?;
     Ok(OCCURRENCE_LIMIT < occurrences)
 }
 
 /// Whether the occurrences of a top have more than 4,000,000 net bits together.
-pub fn has_too_many_bits(plain: &Plain, top: ModId) -> Result<bool, NoMemory>
+pub fn has_too_many_bits(alloc: Global, plain: &Plain, top: ModId) -> Result<bool, NoMemory>
     requires { AllPairs (λ (a b : PModule). a.id.0 < b.id.0) plain.now.modules }
     ensures { IfOk result (λ many. many ≡ has_too_many_bits plain.now top) }
 {
-    let bits = count(plain, &NetBits {}, top)?;
+    let bits = count(alloc, plain, &NetBits {}, top)?;
     Ok(BIT_LIMIT < bits)
 }
 
 /// Whether a walk of instances down from the one module leads to the other, or they are the same.
-pub fn leads_to(plain: &Plain, from: ModId, to: ModId) -> Result<bool, NoMemory>
+pub fn leads_to(alloc: Global, plain: &Plain, from: ModId, to: ModId) -> Result<bool, NoMemory>
     requires { AllPairs (λ (a b : PModule). a.id.0 < b.id.0) plain.now.modules }
     ensures { IfOk result (λ leads. leads ≡ leads_to plain.now from to) }
 {
-    let times = count(plain, &Of { id: to }, from)?;
+    let times = count(alloc, plain, &Of { id: to }, from)?;
     Ok(0 < times)
 }

@@ -8,6 +8,7 @@ use crate::depth::is_too_deep;
 use crate::limits::{has_too_many_bits, has_too_many_occurrences};
 use crate::reading::module_named;
 use emh_base::{ModId, Name, NoMemory, PModule, Plain};
+use std::alloc::Global;
 
 /// Why a table isn't opened as a design at a top.
 #[derive(Clone, Copy, Debug, PartialEq, Eq)]
@@ -53,7 +54,7 @@ impl OpenFault {
 
 /// The id of the module of a name in a sound table, which is a good design at it; or the first of the faults that it has,
 /// in their order. Without memory no other fault is told.
-pub fn fit(plain: &Plain, top: &Name) -> Result<ModId, OpenFault>
+pub fn fit(alloc: Global, plain: &Plain, top: &Name) -> Result<ModId, OpenFault>
     requires { IsSound plain.now }
     ensures looks { FaultLooks (open_fault plain.now (module_named plain.now top.now)) result }
     ensures named { IfOk result (λ id. top_named plain.now top.now ≡ Some id) }
@@ -62,22 +63,25 @@ pub fn fit(plain: &Plain, top: &Name) -> Result<ModId, OpenFault>
     match module_named(plain, top.as_bytes()) {
         None => Err(OpenFault::NoSuchModule),
         Some(holder) => {
-            look_top(plain, holder)?;
+            look_top(alloc, plain, holder)?;
             Ok(holder.id)
         }
     }
 }
 
 /// Looks at a module that is to be the top.
-fn look_top(plain: &Plain, holder: &PModule) -> Result<(), OpenFault>
+fn look_top(alloc: Global, plain: &Plain, holder: &PModule) -> Result<(), OpenFault>
     requires { IsSound plain.now }
     ensures { FaultLooks (first_broken (top_rules plain.now holder.now)) result }
 {
     keep(OpenFault::IsCell, holder.leaf)?;
-    keep(OpenFault::TooDeep, is_too_deep(plain)?)?;
-    let many = has_too_many_occurrences(plain, holder.id)?;
+    keep(OpenFault::TooDeep, is_too_deep(alloc, plain)?)?;
+    let many = has_too_many_occurrences(alloc, plain, holder.id)?;
     keep(OpenFault::TooManyOccurrences, many)?;
-    keep(OpenFault::TooManyBits, has_too_many_bits(plain, holder.id)?)
+    keep(
+        OpenFault::TooManyBits,
+        has_too_many_bits(alloc, plain, holder.id)?,
+    )
 }
 
 /// Looks at one rule.

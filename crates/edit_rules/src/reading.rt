@@ -16,7 +16,10 @@ use crate::facts::{Facts, Spot, Totals};
 use crate::limits::{NetBits, Occurrences, Of};
 use crate::readers::{is_name_in, is_net_used, is_place_used, place_of_port};
 use crate::spots::module_at;
-use emh_base::{Conn, Counters, Dir, InstId, List, ModId, Name, NetId, PInst, PModule, PNet, PPort, Path, Plain, Range, Src, State};
+use emh_base::{
+    Conn, Counters, Dir, InstId, List, ModId, Name, NetId, PInst, PModule, PNet, PPort, Path,
+    Plain, Range, Src, State,
+};
 use flatten_rules::{Numbered, find, module_of, net_of, port_of};
 
 /// A module that is there.
@@ -226,6 +229,10 @@ impl Facts for State {
 
     fn is_locked(&self, id: ModId) -> bool {
         holder_of(&self.plain, id).locked
+    }
+
+    fn top(&self) -> ModId {
+        self.top
     }
 
     fn is_top(&self, id: ModId) -> bool {

@@ -1,9 +1,9 @@
 //! Look-ups of words in a design. Each refuses the line by the word's place where it names nothing.
 
-ghost use Rattle.std.specs.Prelude.{◌≡◌, ◌&&◌, IsTrue, IfOk, IfSome, option_map, option_and_then};
+ghost use Rattle.std.specs.Prelude.{◌≡◌, IsTrue, IfOk, IfSome, option_map, option_and_then};
 ghost use Rattle.flatten_rules.specs.Sound.{IsSound};
 ghost use Rattle.edit_rules.specs.Readers.{is_module};
-ghost use Rattle.edit_rules.specs.Facts.{is_top, master};
+ghost use Rattle.edit_rules.specs.Facts.{master};
 ghost use Rattle.edit_rules.specs.Good.{IsGoodState};
 ghost use Rattle.script_read.specs.Resolve.{Answers, a_module, a_net, a_path, a_pin, a_port, an_inst, at_word, path_named, step_named, pin_in, port_named, refused};
 
@@ -147,7 +147,7 @@ fn path_named<F: Facts>(alloc: Global, facts: &F, names: &[Name]) -> Result<Opti
     ensures { IfOk result (λ path. path ≡ path_named (F.state facts.now) (F.state facts.now).top names.now) }
 {
     let mut path = Path::new(alloc);
-    let mut module = top_of(facts);
+    let mut module = facts.top();
     for name in names {
         let Some((inst, below)) = step_of(facts, module, name) else {
             return Ok(None);
@@ -172,27 +172,4 @@ fn step_of<F: Facts>(facts: &F, module: ModId, name: &Name) -> Option<(InstId, M
             Some(below) => Some((inst, below)),
         },
     }
-}
-
-/// The module at the top. A design tells of a module whether it is the top, so this looks at each number.
-fn top_of<F: Facts>(facts: &F) -> ModId
-    requires { IsGoodState (F.state facts.now) }
-    ensures top { result ≡ (F.state facts.now).top }
-    ensures live { IsTrue (is_module (F.state facts.now).plain result) }
-{
-    for number in 0..facts.next_module() {
-        let id = ModId(number);
-        if is_top(facts, id) {
-            return id;
-        }
-    }
-    unreachable!()
-}
-
-/// Whether a module is there and is the top.
-fn is_top<F: Facts>(facts: &F, id: ModId) -> bool
-    requires { IsSound (F.state facts.now).plain }
-    ensures { result ≡ (is_module (F.state facts.now).plain id && is_top (F.state facts.now) id) }
-{
-    facts.is_module(id) && facts.is_top(id)
 }

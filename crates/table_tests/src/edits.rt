@@ -34,7 +34,7 @@ fn carried(rt: &impl Abort, alloc: Global, state: &mut State, ask: Ask) -> Resul
     let good = is_good_state(alloc, state)?;
     assert!(rt; good);
     let judged = judge(alloc, state, &edit).err();
-    let told = apply_plain(state, &edit);
+    let told = apply_plain(alloc, state, &edit);
     assert!(rt; refusal_of(&told) == judged);
     told
 }

@@ -1,5 +1,4 @@
-ghost use Rattle.std.specs.Prelude.{◌≡◌, ◌&&◌, false, None, is_some, map, IsTrue, IfOk};
-ghost use Rattle.emh_base.specs.declared.plain.PModule.{PModule};
+ghost use Rattle.std.specs.Prelude.{◌≡◌, ◌&&◌, false, None, is_some, IsTrue, IfOk};
 ghost use Rattle.flatten_rules.specs.Lookup.{module_of};
 ghost use Rattle.flatten_rules.specs.Domains.{is_leaf};
 ghost use Rattle.flatten_rules.specs.Sound.{IsSound};
@@ -13,7 +12,7 @@ use super::outline::grown_outline;
 use crate::depth::is_too_deep;
 use crate::facts::Facts;
 use crate::limits::{OCCURRENCE_LIMIT, has_too_many_bits, has_too_many_occurrences, leads_to};
-use emh_base::{ModId, Name, NoMemory, Plain};
+use emh_base::{ModId, Name, NoMemory};
 use std::alloc::Global;
 
 /// Which limits there would be above with an instance more in a module.
@@ -55,12 +54,12 @@ pub fn limits_with<F: Facts>(
         });
     }
     let made = grown_outline(alloc, facts, name, id, master)?;
-    let top = top_of(facts, &made);
+    let top = facts.top();
     Ok(Above {
-        recursive: leads_to(&made, master, id)?,
-        too_deep: is_too_deep(&made)?,
-        too_many_occurrences: has_too_many_occurrences(&made, top)?,
-        too_many_bits: has_too_many_bits(&made, top)?,
+        recursive: leads_to(alloc, &made, master, id)?,
+        too_deep: is_too_deep(alloc, &made)?,
+        too_many_occurrences: has_too_many_occurrences(alloc, &made, top)?,
+        too_many_bits: has_too_many_bits(alloc, &made, top)?,
     })
 }
 
@@ -76,18 +75,4 @@ fn adds_leaves<F: Facts>(facts: &F, id: ModId, master: ModId) -> bool
     } else {
         false
     }
-}
-
-/// The top, by a look at each module.
-fn top_of<F: Facts>(facts: &F, plain: &Plain) -> ModId
-    requires good { IsGoodState (F.state facts.now) }
-    requires all { map (λ (m : PModule). m.id) plain.now.modules ≡ map (λ (m : PModule). m.id) (F.state facts.now).plain.modules }
-    ensures { result ≡ (F.state facts.now).top }
-{
-    for holder in plain.modules.as_slice() {
-        if facts.is_top(holder.id) {
-            return holder.id;
-        }
-    }
-    ModId(0)
 }

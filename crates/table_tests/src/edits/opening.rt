@@ -20,7 +20,7 @@ fn fits(
     let name = name_of(alloc, top)?;
     let sound = is_sound(alloc, plain)?;
     assert!(rt; sound);
-    match (fit(plain, &name), told) {
+    match (fit(alloc, plain, &name), told) {
         (Ok(top), Ok(id)) => assert_eq!(rt; top, ModId(id)),
         (Err(fault), Err(wanted)) => assert_eq!(rt; fault, wanted),
         _ => assert!(rt; false),

@@ -1,4 +1,4 @@
-use Rattle.std.proofs.Common.{refl, ◌≡◌, ℕ, ◌+◌, ◌<◌, nat_lt, Bool, true, false, ◌&&◌, List, [], None, is_some, IsTrue, AllPairs, map, ap, ap₂, sym, subst, ◌∙◌}
+use Rattle.std.proofs.Common.{refl, ◌≡◌, ℕ, ◌+◌, ◌<◌, nat_lt, Bool, true, false, ◌&&◌, List, [], None, is_some, IsTrue, AllPairs, ap, ap₂, sym, subst, ◌∙◌}
 use Rattle.emh_base.specs.declared.ids.ModId.{ModId}
 use Rattle.emh_base.specs.declared.plain.PModule.{PModule}
 use Rattle.emh_base.specs.declared.plain.Plain.{Plain}
@@ -15,7 +15,7 @@ use Rattle.edit_rules.specs.Limits.{is_too_deep, has_too_many_occurrences, has_t
 use Rattle.edit_rules.specs.Facts.{totals, times, inst_after}
 use Rattle.edit_rules.specs.Outline.{outline, grown_outline}
 use Rattle.edit_rules.proofs.OrderLemmas.{rise_changed}
-use Rattle.edit_rules.proofs.OutlineLemmas.{grown-changed, grown-ids}
+use Rattle.edit_rules.proofs.OutlineLemmas.{grown-changed}
 use Rattle.edit_rules.proofs.AlikeLemmas.{outline-rise, grown-alike, deep-alike, occurrences-alike, bits-alike, leads-alike}
 use Rattle.edit_rules.proofs.LeafLemmas.{grown-leads, leads-with, deep-with, occurrences-with, bits-with}
 use Rattle.edit_rules.proofs.judging.grown.limits_with.Goals as goal
@@ -31,11 +31,6 @@ rise-made : (M made : Plain) (name : List ℕ) (id master : ModId) → IsSound M
 rise-made M made name id master sound is =
     subst Rise (sym (is ∙ grown-changed M name id master))
     (rise_changed (outline name M) id (with_inst_alone name master []) (λ m. refl) (outline-rise name M sound.rise))
-
-pub top_of-top-requires-clause-all : goal.top_of-top-requires-clause-all
-top_of-top-requires-clause-all g c =
-    ap (λ (p : Plain). map (λ (m : PModule). m.id) p.modules) c.in_ok-made.ensures
-    ∙ grown-ids c.args.name.now c.args.id c.args.master (g.F.Facts.state c.args.facts.now).plain.modules
 
 pub is_too_deep-requires : goal.is_too_deep-requires
 is_too_deep-requires g c =
@@ -61,7 +56,7 @@ returns-clause-occurrences g c =
     let S = g.F.Facts.state c.args.facts.now in
     let M = S.plain in
     let name = c.args.name.now in
-    c.in_ok-has_too_many_occurrences.ensures ∙ ap₂ has_too_many_occurrences (c.in_ok-made.ensures ∙ grown-changed M name c.args.id c.args.master) c.top_of-top.ensures
+    c.in_ok-has_too_many_occurrences.ensures ∙ ap₂ has_too_many_occurrences (c.in_ok-made.ensures ∙ grown-changed M name c.args.id c.args.master) c.top-top.ensures
     ∙ occurrences-alike (changed name c.args.id c.args.master M) (create_inst M c.args.id name c.args.master) (grown-alike name M c.args.id name c.args.master _ _) S.top
 
 pub returns-clause-bits : goal.returns-clause-bits
@@ -69,7 +64,7 @@ returns-clause-bits g c =
     let S = g.F.Facts.state c.args.facts.now in
     let M = S.plain in
     let name = c.args.name.now in
-    c.in_ok-has_too_many_bits.ensures ∙ ap₂ has_too_many_bits (c.in_ok-made.ensures ∙ grown-changed M name c.args.id c.args.master) c.top_of-top.ensures
+    c.in_ok-has_too_many_bits.ensures ∙ ap₂ has_too_many_bits (c.in_ok-made.ensures ∙ grown-changed M name c.args.id c.args.master) c.top-top.ensures
     ∙ bits-alike (changed name c.args.id c.args.master M) (create_inst M c.args.id name c.args.master) (grown-alike name M c.args.id name c.args.master _ _) S.top
 
 pub leads_to-requires : goal.leads_to-requires
