@@ -1,0 +1,5 @@
+pub mod Take
+pub mod React
+pub mod Session
+pub mod Journal
+pub mod Law
