@@ -11,14 +11,14 @@ use Rattle.emh_base.specs.declared.plain.PModule.{PModule}
 use Rattle.emh_base.specs.declared.plain.Plain.{Plain}
 use Rattle.flatten_rules.specs.Lookup.{module_of, insts_of, width}
 use Rattle.flatten_rules.specs.Limits.{bits_of}
-use Rattle.flatten_rules.specs.Extent.{total, height, greatest_by}
+use Rattle.flatten_rules.specs.Counting.{total, height, greatest_by}
 use Rattle.flatten_rules.specs.Changes.{with_module}
 use Rattle.edit_rules.specs.Insts.{with_inst_alone, with_new_inst}
-use Rattle.edit_rules.specs.Limits.{is_too_deep, has_too_many_occurrences, has_too_many_bits, leads_to}
-use Rattle.edit_rules.specs.Outline.{bare_inst, bare_net, bare, outline, IsAlike}
+use Rattle.flatten_rules.specs.Limits.{is_too_deep, has_too_many_occurrences, has_too_many_bits, leads_to}
+use Rattle.edit_rules.specs.inside.Outline.{bare_inst, bare_net, bare, outline, IsAlike}
 use Rattle.edit_rules.proofs.OrderLemmas.{rises-map}
-use Rattle.edit_rules.proofs.HeightLemmas.{greatest-same}
-use Rattle.edit_rules.proofs.UnfoldLemmas.{many-occurrences, many-bits, leads-counted}
+use Rattle.flatten_rules.proofs.Heights.{greatest-same}
+use Rattle.flatten_rules.proofs.Summing.{many-occurrences, many-bits, leads-counted}
 use Rattle.edit_rules.proofs.MoreLemmas.{masters_of, sum-same, changed-found}
 
 greatest-masters : (t : ModId → ℕ) (xs : List PInst) → greatest_by (λ (inst : PInst). t inst.master) xs ≡ greatest_by t (map (λ (inst : PInst). inst.master) xs)

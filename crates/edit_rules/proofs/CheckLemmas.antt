@@ -7,25 +7,9 @@ use Rattle.emh_base.specs.declared.rule.Refusal.{Refusal}
 use Rattle.edit_rules.specs.declared.judged.Judged.{Judged}
 use Rattle.edit_rules.specs.declared.judged.Judged.TheVariants.{Rule, NoMemory}
 use Rattle.edit_rules.specs.Judged.{Looks}
-use Rattle.edit_rules.specs.Check.{Check, first_broken}
-
-kept_by : (b : Bool) (r : Refusal) (rest all second : Option Refusal) → (rest ≡ None → all ≡ second) → cond b (Some r) rest ≡ None → cond b (Some r) all ≡ second
-kept_by true r rest all second more e = let never : Some r ≡ None = e in absurd (cc)
-kept_by false r rest all second more e = more e
-
-broken_by : (b : Bool) (x r : Refusal) (rest all : Option Refusal) → (rest ≡ Some r → all ≡ Some r) → cond b (Some x) rest ≡ Some r → cond b (Some x) all ≡ Some r
-broken_by true x r rest all more e = e
-broken_by false x r rest all more e = more e
-
--- where no rule of the first list is broken, it is that of the second
-pub first_broken-kept : (xs ys : List Check) → first_broken xs ≡ None → first_broken (xs ++ ys) ≡ first_broken ys
-first_broken-kept [] ys none = refl
-first_broken-kept (x ∷ xs) ys none = kept_by x.0 x.1 (first_broken xs) (first_broken (xs ++ ys)) (first_broken ys) (first_broken-kept xs ys) none
-
--- where one is, it is that one
-pub first_broken-broken : (xs ys : List Check) (r : Refusal) → first_broken xs ≡ Some r → first_broken (xs ++ ys) ≡ Some r
-first_broken-broken [] ys r some = let never : None ≡ Some r = some in absurd (cc)
-first_broken-broken (x ∷ xs) ys r some = broken_by x.0 x.1 r (first_broken xs) (first_broken (xs ++ ys)) (first_broken-broken xs ys r) some
+use Rattle.flatten_rules.specs.Check.{first_broken}
+use Rattle.flatten_rules.proofs.FirstBroken.{first_broken-kept, first_broken-broken}
+use Rattle.edit_rules.specs.Check.{Check}
 
 module _ {X : Type 0} (f : X → List Check) (xs : List X) (i : ℕ) (d : X) (within : i < length xs) where
   now : flat_map f (drop i xs) ≡ f (get_or xs i d) ++ flat_map f (drop (i + 1) xs)

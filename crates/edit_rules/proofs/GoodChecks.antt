@@ -6,7 +6,8 @@ use Rattle.emh_base.specs.declared.state.State.{State}
 use Rattle.emh_base.specs.declared.rule.Refusal.{Refusal}
 use Rattle.flatten_rules.specs.Lookup.{module_of}
 use Rattle.flatten_rules.specs.Domains.{is_leaf}
-use Rattle.edit_rules.specs.Check.{Check, first_broken}
+use Rattle.flatten_rules.specs.Check.{first_broken}
+use Rattle.edit_rules.specs.Check.{Check}
 use Rattle.edit_rules.specs.Modules.{common}
 
 none-head : (b : Bool) (r : Refusal) (rest : Option Refusal) → cond b (Some r) rest ≡ None → (b ≡ false) × (rest ≡ None)

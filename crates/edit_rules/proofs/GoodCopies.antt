@@ -19,11 +19,12 @@ use Rattle.flatten_rules.specs.Lookup.{module_of, inst_of, insts_of}
 use Rattle.flatten_rules.specs.Domains.{is_leaf}
 use Rattle.flatten_rules.specs.Design.{IsInner}
 use Rattle.flatten_rules.specs.Limits.{bits_of, IsWithin}
-use Rattle.flatten_rules.specs.Sound.{FitPorts, HasMaster, IsSoundModule}
+use Rattle.flatten_rules.specs.Sound.{FitPorts, HasMaster, IsSoundModule, IsCounter}
 use Rattle.flatten_rules.proofs.Sound.{All-find, sound-module, master-there}
 use Rattle.flatten_rules.proofs.Walks.{id-of_found, found-own, find-own, find-passes, some-there}
 use Rattle.edit_rules.specs.Readers.{inst_in, master_of, master_id}
 use Rattle.flatten_rules.specs.Changes.{with_insts}
+use Rattle.flatten_rules.proofs.LimitTests.{at_most}
 use Rattle.edit_rules.specs.Insts.{with_master, with_copy, uniquify, uniquify_rules}
 use Rattle.edit_rules.specs.Good.{IsGoodState}
 use Rattle.edit_rules.specs.Apply.{after}
@@ -188,6 +189,7 @@ module _ (S : State) (id : ModId) (i : InstId) (name : List ℕ) (o : Opened S i
         names = subst (λ ns. IsDistinct bytes_eq (map net_name o.holder.nets ++ ns)) (sym same_names) s.names;
         nets_rise = s.nets_rise;
         nets_below = s.nets_below;
+        net_counter = s.net_counter;
         ranges = s.ranges;
         ports_there = s.ports_there;
         ports_differ = s.ports_differ;
@@ -195,6 +197,7 @@ module _ (S : State) (id : ModId) (i : InstId) (name : List ℕ) (o : Opened S i
         insts_below = All-map (λ (y : PInst). y.id.0 < o.holder.next_inst) (at_inst i change) insts
             (All-weaker (λ (y : PInst). y.id.0 < o.holder.next_inst) (λ (y : PInst). (at_inst i change y).id.0 < o.holder.next_inst)
             (λ y low. rw (inst-keeps i change (λ z. z.id.0) (λ z. refl) y) low) insts s.insts_below);
+        inst_counter = s.inst_counter;
         masters = All-map (HasMaster N (f o.holder)) (at_inst i change) insts (λ k d within. each k d within (s.masters k d within));
         cell = no_cell o.holder (f o.holder) o.inner refl;
       }
@@ -214,8 +217,8 @@ module _ (S : State) (id : ModId) (i : InstId) (name : List ℕ) (o : Opened S i
       All-map (λ (m : PModule). m.name ≢ name) (changed id f) M.modules (All-weaker (λ (m : PModule). m.name ≢ name) (λ (m : PModule). (changed id f m).name ≢ name) (λ m apart. λ equal. apart (sym (same m) ∙ equal)) M.modules free) in
       names.distinct called (map (changed id f) M.modules ++ copy ∷ []) (names.apart-push called (map (changed id f) M.modules) copy old others)
 
-  pub copy-good : All (λ (m : PModule). m.name ≢ name) M.modules → KeepsGood M N S.top
-  copy-good free =
+  pub copy-good : All (λ (m : PModule). m.name ≢ name) M.modules → IsCounter (M.next_module + 1) → KeepsGood M N S.top
+  copy-good free room =
       let Low : PModule → Type 0 = λ m. m.id.0 < M.next_module in
       let low : All Low (map (changed id f) M.modules) = All-map Low (changed id f) M.modules (All-weaker Low (λ m. Low (changed id f m)) (λ m is. rw (ids m) is) M.modules good.table.sound.below) in
       let Kept : PModule → PModule → Type 0 = λ v w. w.leaf ≡ true → v ≡ w in
@@ -227,6 +230,7 @@ module _ (S : State) (id : ModId) (i : InstId) (name : List ℕ) (o : Opened S i
                 (rises-map (λ (m : PModule). m.id.0) (changed id f) (λ m. ap (λ (at : ModId). at.0) (ids m)) M.modules good.table.sound.rise) low;
             below = All-push (λ (m : PModule). m.id.0 < M.next_module + 1) (map (changed id f) M.modules) copy
                 (All-weaker Low (λ (m : PModule). m.id.0 < M.next_module + 1) (λ m is. omega (arith, is)) (map (changed id f) M.modules) low) (omega arith);
+            counter = room;
             modules = All-push (IsSoundModule N) (map (changed id f) M.modules) copy
                 (All-map (IsSoundModule N) (changed id f) M.modules (λ k d within. each-sound (get_or M.modules k d) (find-own (λ (m : PModule). m.id.0) M.modules good.table.sound.rise k d within) (good.table.sound.modules k d within)))
                 copy-sound;
@@ -275,4 +279,4 @@ uniquify-good S id i name good p =
     ap (λ (y : Option PModule). with_master (with_copy M y name) id i new) master ∙ copy-first M id i z.0 name apart
     in
     stays S (uniquify M id i name) good
-    (subst (λ table. KeepsGood M table S.top) (sym is) (copy-good S id i name o good x.0 x.1 z.0 z.1 inner (names.free called name M.modules e.0)))
+    (subst (λ table. KeepsGood M table S.top) (sym is) (copy-good S id i name o good x.0 x.1 z.0 z.1 inner (names.free called name M.modules e.0) (at_most 4294967295 (M.next_module + 1) (first-passes e.1).0)))

@@ -25,7 +25,8 @@ use Rattle.flatten_rules.specs.Limits.{IsWithin}
 use Rattle.flatten_rules.specs.Sound.{IsSource, FitsPort, FitPorts, HasMaster}
 use Rattle.flatten_rules.proofs.Places.{find-from_place}
 use Rattle.flatten_rules.proofs.Walks.{find-own, find-passes, same-some}
-use Rattle.edit_rules.specs.Check.{Check, first_broken}
+use Rattle.flatten_rules.specs.Check.{first_broken}
+use Rattle.edit_rules.specs.Check.{Check}
 use Rattle.edit_rules.specs.Readers.{is_name_in, inst_in, net_in, master_of, master_id, port_place}
 use Rattle.flatten_rules.specs.Changes.{with_insts, with_inst, with_conns}
 use Rattle.edit_rules.specs.Insts.{rename_inst, rename_inst_rules, delete_inst, delete_inst_rules, connect, connect_rules, disconnect, disconnect_rules, with_conn, set_conn, source_rules, width_rules}
@@ -96,6 +97,7 @@ module _ (S : State) (id : ModId) (i : InstId) (c : PInst → PInst) (ids : (x :
         names = distinct;
         nets_rise = s.nets_rise;
         nets_below = s.nets_below;
+        net_counter = s.net_counter;
         ranges = s.ranges;
         ports_there = s.ports_there;
         ports_differ = s.ports_differ;
@@ -103,6 +105,7 @@ module _ (S : State) (id : ModId) (i : InstId) (c : PInst → PInst) (ids : (x :
         insts_below = All-map (λ (y : PInst). y.id.0 < o.holder.next_inst) (at_inst i c) insts
             (All-weaker (λ (y : PInst). y.id.0 < o.holder.next_inst) (λ (y : PInst). (at_inst i c y).id.0 < o.holder.next_inst)
             (λ y low. rw (inst-keeps i c number (λ z. ap (λ (at : InstId). at.0) (ids z)) y) low) insts s.insts_below);
+        inst_counter = s.inst_counter;
         masters = All-map (HasMaster N (f o.holder)) (at_inst i c) insts (λ k d within. has (at_inst i c (get_or insts k d)) (each k d within (s.masters k d within)));
         cell = no_cell o.holder (f o.holder) o.inner refl;
       })
@@ -280,11 +283,13 @@ delete_inst-good S id i good p =
       });
       nets_rise = s.nets_rise;
       nets_below = s.nets_below;
+      net_counter = s.net_counter;
       ranges = s.ranges;
       ports_there = s.ports_there;
       ports_differ = s.ports_differ;
       insts_rise = AllPairs-filter (λ (a b : PInst). a.id.0 < b.id.0) test insts s.insts_rise;
       insts_below = All-filter test (λ (y : PInst). y.id.0 < o.holder.next_inst) insts s.insts_below;
+      inst_counter = s.inst_counter;
       masters = All-filter test (HasMaster N (f o.holder)) insts (insts_kept S.plain N o.holder (f o.holder) (masters-changed S id f (λ m. refl) o good ports) (λ net. omega arith) insts s.masters);
       cell = no_cell o.holder (f o.holder) o.inner refl;
     })

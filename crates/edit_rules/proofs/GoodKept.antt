@@ -55,11 +55,13 @@ dressed_sound M N m id name locked masters inner s =
       names = s.names;
       nets_rise = s.nets_rise;
       nets_below = s.nets_below;
+      net_counter = s.net_counter;
       ranges = s.ranges;
       ports_there = s.ports_there;
       ports_differ = s.ports_differ;
       insts_rise = s.insts_rise;
       insts_below = s.insts_below;
+      inst_counter = s.inst_counter;
       masters = insts_kept M N m n masters (λ net. omega arith) m.insts s.masters;
       cell = no_cell m n inner refl;
     }

@@ -6,7 +6,7 @@ use Rattle.emh_base.specs.declared.edit.By.{By}
 use Rattle.emh_base.specs.declared.edit.Change.{Change}
 use Rattle.emh_base.specs.declared.edit.Edit.{Edit}
 use Rattle.emh_base.specs.declared.edit.Edit.TheVariants.{CreateModule, DeleteModule, CreateNet, DeleteNet, CreatePort, DeletePort, CreateInst, DeleteInst, Connect, Disconnect, RenameModule, RenameNet, RenameInst, Resize, Uniquify, Place, Unplace, Lock, Unlock, SetFanout, SetGrid}
-use Rattle.edit_rules.specs.Check.{first_broken}
+use Rattle.flatten_rules.specs.Check.{first_broken}
 use Rattle.edit_rules.specs.Good.{IsGoodState}
 use Rattle.edit_rules.specs.declared.judged.Judged.{Judged}
 use Rattle.edit_rules.specs.declared.judged.Judged.TheVariants.{Rule, NoMemory}

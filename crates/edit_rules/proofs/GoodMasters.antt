@@ -20,13 +20,13 @@ use Rattle.emh_base.specs.declared.edit.Edit.TheVariants.{CreateInst, Resize}
 use Rattle.flatten_rules.specs.Lookup.{module_of, net_of, insts_of, width, width_of}
 use Rattle.flatten_rules.specs.Unfolding.{occurrences}
 use Rattle.flatten_rules.specs.Domains.{is_leaf}
-use Rattle.flatten_rules.specs.Extent.{height}
+use Rattle.flatten_rules.specs.Counting.{height}
 use Rattle.flatten_rules.specs.Limits.{bits_of, WalksAreShort}
 use Rattle.flatten_rules.specs.Sound.{FitsPort, FitPorts, HasMaster, IsSoundModule}
 use Rattle.flatten_rules.proofs.Sound.{All-find, sound-module}
 use Rattle.flatten_rules.proofs.Walks.{id-of_found, found-own, within-by_cases, walks-within}
-use Rattle.edit_rules.specs.Readers.{is_name_in, inst_in, master_of, same_dir, same_range, same_net, same_port, same_ports}
-use Rattle.edit_rules.specs.Limits.{is_too_deep}
+use Rattle.edit_rules.specs.Readers.{next_inst_of, lacks_room, is_name_in, inst_in, master_of, same_dir, same_range, same_net, same_port, same_ports}
+use Rattle.flatten_rules.specs.Limits.{is_too_deep}
 use Rattle.flatten_rules.specs.Changes.{with_insts}
 use Rattle.edit_rules.specs.Insts.{create_inst, create_inst_rules, with_new_inst, new_inst, all_open, with_master, resize_rules}
 use Rattle.edit_rules.specs.Good.{IsGoodState}
@@ -39,7 +39,8 @@ use Rattle.edit_rules.proofs.GoodNames as names
 use Rattle.edit_rules.proofs.GoodNames.{net_name, inst_name, NamesApart}
 use Rattle.edit_rules.proofs.GoodKept.{insts_kept, keeps_wide, no_cell, holder-sound, holder-names, names-stay, masters-changed, changed-good}
 use Rattle.edit_rules.proofs.GoodInsts.{at_inst, inst-keeps, each-inst, inst-table, inst-there}
-use Rattle.edit_rules.proofs.GoodNets.{at_most, few-bits}
+use Rattle.flatten_rules.proofs.LimitTests.{at_most}
+use Rattle.edit_rules.proofs.GoodNets.{few-bits}
 
 -- CreateInst
 
@@ -96,12 +97,14 @@ create_inst-good S id name master good p =
       });
       nets_rise = s.nets_rise;
       nets_below = s.nets_below;
+      net_counter = s.net_counter;
       ranges = s.ranges;
       ports_there = s.ports_there;
       ports_differ = s.ports_differ;
       insts_rise = all_pairs_push (λ (y z : PInst). y.id.0 < z.id.0) m.insts new s.insts_rise s.insts_below;
       insts_below = All-push (λ (y : PInst). y.id.0 < m.next_inst + 1) m.insts new
           (All-weaker (λ (y : PInst). y.id.0 < m.next_inst) (λ (y : PInst). y.id.0 < m.next_inst + 1) (λ y low. omega (arith, low)) m.insts s.insts_below) (omega arith);
+      inst_counter = at_most 4294967295 (m.next_inst + 1) (sym (ap (λ (y : Option PModule). lacks_room (next_inst_of y) 1) o.found) ∙ ended.0);
       masters = All-push (HasMaster N n) m.insts new (insts_kept S.plain N m n masters (λ net. omega arith) m.insts s.masters)
           (master_kept S.plain N m n new (masters master) (λ k d within. keeps_wide m n (λ net. omega arith) (get_or conns k d)) (has-open S.plain m m.next_inst name master x.0 x.1));
       cell = no_cell m n o.inner refl;

@@ -21,6 +21,7 @@ use Rattle.flatten_rules.specs.Design.{IsInner}
 use Rattle.flatten_rules.specs.Sound.{HasMaster, IsSoundModule, IsSound}
 use Rattle.edit_rules.specs.Readers.{users}
 use Rattle.flatten_rules.specs.Changes.{with_last_module}
+use Rattle.flatten_rules.proofs.LimitTests.{at_most}
 use Rattle.edit_rules.specs.Modules.{create_module, create_module_rules, empty_module, delete_module, delete_module_rules}
 use Rattle.edit_rules.specs.Good.{IsGoodState}
 use Rattle.edit_rules.specs.Apply.{after}
@@ -59,11 +60,13 @@ empty-sound N id name = record {
   names = tt;
   nets_rise = λ i j d lt within. absurd (omega arith);
   nets_below = λ k d within. absurd (omega arith);
+  net_counter = omega arith;
   ranges = λ k d within. absurd (omega arith);
   ports_there = λ k d within. absurd (omega arith);
   ports_differ = λ i j d lt within. absurd (omega arith);
   insts_rise = λ i j d lt within. absurd (omega arith);
   insts_below = λ k d within. absurd (omega arith);
+  inst_counter = omega arith;
   masters = λ k d within. absurd (omega arith);
   cell = λ leaf. absurd (true≢false (sym leaf));
 }
@@ -71,6 +74,7 @@ empty-sound N id name = record {
 pub create_module-good : (S : State) (name : List ℕ) → IsGoodState S → Passes (create_module_rules S name) → IsGoodState (after S (CreateModule name))
 create_module-good S name good p =
     let a = first-passes p in
+    let room = (first-passes a.1).0 in
     let M : Plain = S.plain in
     let new : PModule = empty_module M.next_module name in
     let N : Plain = create_module M name in
@@ -93,6 +97,7 @@ create_module-good S name good p =
           rise = all_pairs_push (λ (x y : PModule). x.id.0 < y.id.0) M.modules new sound.rise sound.below;
           below = All-push (λ (m : PModule). m.id.0 < M.next_module + 1) M.modules new
               (All-weaker (λ (m : PModule). m.id.0 < M.next_module) (λ (m : PModule). m.id.0 < M.next_module + 1) (λ m low. omega (arith, low)) M.modules sound.below) (omega arith);
+          counter = at_most 4294967295 (M.next_module + 1) room;
           modules = All-push (IsSoundModule N) M.modules new (All-weaker (IsSoundModule M) (IsSoundModule N) (λ m s. module_kept M N m masters s) M.modules sound.modules) (empty-sound N M.next_module name);
           no_cycle = no_cycle-short N within.depth;
         };
@@ -180,17 +185,20 @@ delete_module-good S id good p =
           names = names.distinct called (filter stays_there M.modules) (AllPairs-filter (λ x y. called x ≢ called y) stays_there M.modules (names.apart called M.modules sound.names));
           rise = AllPairs-filter (λ (x y : PModule). x.id.0 < y.id.0) stays_there M.modules sound.rise;
           below = All-filter stays_there (λ (m : PModule). m.id.0 < M.next_module) M.modules sound.below;
+          counter = sound.counter;
           modules = All-filter stays_there (IsSoundModule N) M.modules (λ k f inside.
               let s = sound.modules k f inside in
               record {
                 names = s.names;
                 nets_rise = s.nets_rise;
                 nets_below = s.nets_below;
+                net_counter = s.net_counter;
                 ranges = s.ranges;
                 ports_there = s.ports_there;
                 ports_differ = s.ports_differ;
                 insts_rise = s.insts_rise;
                 insts_below = s.insts_below;
+                inst_counter = s.inst_counter;
                 masters = masters (get_or M.modules k f) (unused k f inside) s.masters;
                 cell = s.cell;
               });

@@ -26,10 +26,11 @@ use Rattle.emh_base.specs.declared.edit.Edit.TheVariants.{CreateNet, DeleteNet}
 use Rattle.flatten_rules.specs.Lookup.{module_of, net_of, port_of, width, width_of}
 use Rattle.flatten_rules.specs.Unfolding.{Occurrence, occurrences}
 use Rattle.flatten_rules.specs.Limits.{bits_of}
-use Rattle.flatten_rules.specs.Sound.{IsAllowed, IsSource}
+use Rattle.flatten_rules.specs.Sound.{IsAllowed, IsSource, IsCounter}
 use Rattle.flatten_rules.proofs.Walks.{some-there}
-use Rattle.edit_rules.specs.Readers.{is_name_in, is_of_net, names_net, is_net_used, is_too_wide}
-use Rattle.edit_rules.specs.Limits.{has_too_many_bits}
+use Rattle.edit_rules.specs.Readers.{next_net_of, lacks_room, is_name_in, is_of_net, names_net, is_net_used, is_too_wide}
+use Rattle.flatten_rules.specs.Limits.{has_too_many_bits}
+use Rattle.flatten_rules.proofs.LimitTests.{at_most}
 use Rattle.edit_rules.specs.Nets.{create_net, create_net_rules, with_net, new_net, delete_net, delete_net_rules, without_net}
 use Rattle.edit_rules.specs.Good.{IsGoodState}
 use Rattle.edit_rules.specs.Apply.{after}
@@ -122,11 +123,13 @@ delete_net-good S id net good p =
       });
       nets_rise = AllPairs-filter (λ (x y : PNet). x.id.0 < y.id.0) stays_net m.nets s.nets_rise;
       nets_below = All-filter stays_net (λ (x : PNet). x.id.0 < m.next_net) m.nets s.nets_below;
+      net_counter = s.net_counter;
       ranges = All-filter stays_net (λ (x : PNet). IsAllowed x.range) m.nets s.ranges;
       ports_there = λ k d within. ap (λ (x : Option PNet). is_some x) (at_port k d within) ∙ s.ports_there k d within;
       ports_differ = s.ports_differ;
       insts_rise = s.insts_rise;
       insts_below = s.insts_below;
+      inst_counter = s.inst_counter;
       masters = λ k d within. master_kept S.plain N m n (get_or m.insts k d) (kept (get_or m.insts k d).master)
           (λ j f inside. keeps-unnamed m n net same (get_or (get_or m.insts k d).conns j f) (free k d within j f inside)) (s.masters k d within);
       cell = no_cell m n o.inner refl;
@@ -134,9 +137,6 @@ delete_net-good S id net good p =
     (within-changed S id (without_net net) (λ m. refl) o good (below-own m.insts) few))
 
 -- CreateNet
-
-pub at_most : (limit n : ℕ) → nat_lt limit n ≡ false → n ≤ limit
-at_most limit n e = grind (arith, nat_tests)
 
 pub range-allowed : (range : Option Range) → is_too_wide range ≡ false → IsAllowed range
 range-allowed None e = tt
@@ -171,10 +171,12 @@ pub record WithNet (m : PModule) (name : List ℕ) (range : Option Range) : Type
   pub names : IsDistinct bytes_eq (map net_name (m.nets ++ new_net m.next_net name range ∷ []) ++ map inst_name m.insts)
   pub rise : AllPairs (λ (x y : PNet). x.id.0 < y.id.0) (m.nets ++ new_net m.next_net name range ∷ [])
   pub below : All (λ (x : PNet). x.id.0 < m.next_net + 1) (m.nets ++ new_net m.next_net name range ∷ [])
+  pub counter : IsCounter (m.next_net + 1)
   pub ranges : All (λ (x : PNet). IsAllowed x.range) (m.nets ++ new_net m.next_net name range ∷ [])
 
-pub with_net-sound : (S : State) (id : ModId) (name : List ℕ) (range : Option Range) (o : Opened S id) → IsGoodState S → is_name_in (module_of S.plain id) name ≡ false → is_too_wide range ≡ false → WithNet o.holder name range
-with_net-sound S id name range o good is_free narrow =
+pub with_net-sound : (S : State) (id : ModId) (name : List ℕ) (range : Option Range) (o : Opened S id) → IsGoodState S → is_name_in (module_of S.plain id) name ≡ false → is_too_wide range ≡ false
+    → lacks_room (next_net_of (module_of S.plain id)) 1 ≡ false → WithNet o.holder name range
+with_net-sound S id name range o good is_free narrow room =
     let m : PModule = o.holder in
     let new : PNet = new_net m.next_net name range in
     let s = holder-sound S id (λ m. m) (λ m. refl) o good in
@@ -191,6 +193,7 @@ with_net-sound S id name range o good is_free narrow =
       rise = all_pairs_push (λ (x y : PNet). x.id.0 < y.id.0) m.nets new s.nets_rise s.nets_below;
       below = All-push (λ (x : PNet). x.id.0 < m.next_net + 1) m.nets new
           (All-weaker (λ (x : PNet). x.id.0 < m.next_net) (λ (x : PNet). x.id.0 < m.next_net + 1) (λ x low. omega (arith, low)) m.nets s.nets_below) (omega arith);
+      counter = at_most 4294967295 (m.next_net + 1) (sym (ap (λ (x : Option PModule). lacks_room (next_net_of x) 1) o.found) ∙ room);
       ranges = All-push (λ (x : PNet). IsAllowed x.range) m.nets new s.ranges (range-allowed range narrow);
     }
 
@@ -210,7 +213,7 @@ create_net-good S id name range good p =
     let N : Plain = create_net S.plain id name range in
     let f : PModule → PModule = with_net name range in
     let s = holder-sound S id f (λ m. refl) o good in
-    let made = with_net-sound S id name range o good b.0 c.0 in
+    let made = with_net-sound S id name range o good b.0 c.0 d.0 in
     let ports : SamePorts m n = record { ports = refl; widths = λ k d within. ap width_of (net-same m name range (get_or m.ports k d).net (s.ports_there k d within)) } in
     let below : IsBelow N S.plain Same = below-changed S id f (λ m. refl) o good (below-own m.insts) in
     stays S N good
@@ -219,11 +222,13 @@ create_net-good S id name range good p =
       names = made.names;
       nets_rise = made.rise;
       nets_below = made.below;
+      net_counter = made.counter;
       ranges = made.ranges;
       ports_there = λ k d within. ap (λ (x : Option PNet). is_some x) (net-same m name range (get_or m.ports k d).net (s.ports_there k d within)) ∙ s.ports_there k d within;
       ports_differ = s.ports_differ;
       insts_rise = s.insts_rise;
       insts_below = s.insts_below;
+      inst_counter = s.inst_counter;
       masters = insts_kept S.plain N m n (masters-changed S id f (λ m. refl) o good ports) (net-wide m name range) m.insts s.masters;
       cell = no_cell m n o.inner refl;
     })

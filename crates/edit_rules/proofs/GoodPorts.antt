@@ -29,7 +29,7 @@ use Rattle.flatten_rules.proofs.Sound.{All-find, sound-module}
 use Rattle.flatten_rules.proofs.Places.{find-from_place, found-nowhere}
 use Rattle.flatten_rules.proofs.Walks.{find-passes, id-of_found, id-of_net, some-there}
 use Rattle.edit_rules.specs.Readers.{port_in, port_place, is_net_used}
-use Rattle.edit_rules.specs.Limits.{has_too_many_bits}
+use Rattle.flatten_rules.specs.Limits.{has_too_many_bits}
 use Rattle.flatten_rules.specs.Changes.{with_module, at_instances, with_insts, with_conns}
 use Rattle.edit_rules.specs.Nets.{create_port, create_port_rules, with_port, with_net, new_net, delete_port, delete_port_rules, without_port, without_conn}
 use Rattle.edit_rules.specs.Good.{IsGoodState}
@@ -128,11 +128,13 @@ module _ (S : State) (id : ModId) (f : PModule → PModule) (d : List Conn → L
       names = subst (λ ns. IsDistinct bytes_eq (map net_name x.nets ++ ns)) (sym (same-names x.insts)) s.names;
       nets_rise = s.nets_rise;
       nets_below = s.nets_below;
+      net_counter = s.net_counter;
       ranges = s.ranges;
       ports_there = s.ports_there;
       ports_differ = s.ports_differ;
       insts_rise = joined-rise x.insts s.insts_rise;
       insts_below = joined-below x.next_inst x.insts s.insts_below;
+      inst_counter = s.inst_counter;
       masters = All-map (HasMaster joined_table (with_insts joined x)) joined x.insts (λ k e within.
           let y : PInst = get_or x.insts k e in
           let keeps : All (KeepsConn x (with_insts joined x)) y.conns = λ j c inside. keeps_wide x (with_insts joined x) (λ net. omega arith) (get_or y.conns j c) in
@@ -219,7 +221,7 @@ create_port-good S id name dir range good p =
     let N : Plain = joined_table S id f d (λ x. refl) o good in
     let is : N ≡ create_port S.plain id name dir range = table-is S id f d (λ x. refl) o good in
     let s = holder-sound S id f (λ x. refl) o good in
-    let made = with_net-sound S id name range o good b.0 c.0 in
+    let made = with_net-sound S id name range o good b.0 c.0 q.0 in
     let same : All (λ (x : PPort). net_of T x.net ≡ net_of m x.net) m.ports = λ k x within. net-same m name range (get_or m.ports k x).net (s.ports_there k x within) in
     let fits : (x n : PModule) (y : PInst) → All (KeepsConn x n) y.conns → FitPorts x m m.ports y.conns → FitPorts n T (m.ports ++ port ∷ []) (d y.conns) =
     λ x n y keeps fit. fit-push n T m.ports y.conns port (fit_kept x n m T m.ports y.conns (λ k z within. ap width_of (same k z within)) keeps fit)
@@ -229,12 +231,14 @@ create_port-good S id name dir range good p =
       names = subst (λ ns. IsDistinct bytes_eq (map net_name (m.nets ++ new_net m.next_net name range ∷ []) ++ ns)) (sym (same-names S id f d (λ x. refl) o good m.insts)) made.names;
       nets_rise = made.rise;
       nets_below = made.below;
+      net_counter = made.counter;
       ranges = made.ranges;
       ports_there = All-push (λ (x : PPort). IsSome (net_of T x.net)) m.ports port
           (λ k x within. ap (λ (y : Option PNet). is_some y) (same k x within) ∙ s.ports_there k x within) (new-there m name range);
       ports_differ = all_pairs_push (λ (x y : PPort). x.net ≢ y.net) m.ports port s.ports_differ (port-fresh S.plain m s);
       insts_rise = joined-rise S id f d (λ x. refl) o good m.insts s.insts_rise;
       insts_below = joined-below S id f d (λ x. refl) o good m.next_inst m.insts s.insts_below;
+      inst_counter = s.inst_counter;
       masters = All-map (HasMaster N T) (joined S id f d (λ x. refl) o good) m.insts (λ k x within.
           let y : PInst = get_or m.insts k x in
           let keeps : All (KeepsConn m T) y.conns = λ j z inside. keeps_wide m T (net-wide m name range) (get_or y.conns j z) in
@@ -363,11 +367,13 @@ delete_port-good S id port good p =
           }));
       nets_rise = AllPairs-filter (λ (x y : PNet). x.id.0 < y.id.0) stays_net m.nets s.nets_rise;
       nets_below = All-filter stays_net (λ (x : PNet). x.id.0 < m.next_net) m.nets s.nets_below;
+      net_counter = s.net_counter;
       ranges = All-filter stays_net (λ (x : PNet). IsAllowed x.range) m.nets s.ranges;
       ports_there = λ k x within. ap (λ (y : Option PNet). is_some y) (same k x within) ∙ All-filter stays_port (λ (y : PPort). IsSome (net_of m y.net)) m.ports s.ports_there k x within;
       ports_differ = AllPairs-filter (λ (x y : PPort). x.net ≢ y.net) stays_port m.ports s.ports_differ;
       insts_rise = joined-rise S id f d (λ x. refl) o good m.insts s.insts_rise;
       insts_below = joined-below S id f d (λ x. refl) o good m.next_inst m.insts s.insts_below;
+      inst_counter = s.inst_counter;
       masters = All-map (HasMaster N T) (joined S id f d (λ x. refl) o good) m.insts (λ k x within.
           let y : PInst = get_or m.insts k x in
           let keeps : All (KeepsConn m T) y.conns = λ j z inside. keeps-unnamed m T port other (get_or y.conns j z) (free k x within j z inside) in

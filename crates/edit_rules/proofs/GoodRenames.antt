@@ -134,12 +134,14 @@ rename_net-good S id net name good p =
       nets_rise = rises-map (λ (x : PNet). x.id.0) h (λ x. keeps net name (λ y. y.id.0) (x.id.0 == net.0) x refl) nets s.nets_rise;
       nets_below = All-map (λ (x : PNet). x.id.0 < o.holder.next_net) h nets
           (All-weaker (λ (x : PNet). x.id.0 < o.holder.next_net) (λ (x : PNet). (h x).id.0 < o.holder.next_net) (λ x low. rw (keeps net name (λ y. y.id.0) (x.id.0 == net.0) x refl) low) nets s.nets_below);
+      net_counter = s.net_counter;
       ranges = All-map (λ (x : PNet). IsAllowed x.range) h nets
           (All-weaker (λ (x : PNet). IsAllowed x.range) (λ (x : PNet). IsAllowed (h x).range) (λ x allowed. subst IsAllowed (sym (keeps net name (λ y. y.range) (x.id.0 == net.0) x refl)) allowed) nets s.ranges);
       ports_there = λ k d within. ap (λ (x : Option PNet). is_some x) (net_called net name o.holder (get_or o.holder.ports k d).net) ∙ some_called net name (net_of o.holder (get_or o.holder.ports k d).net) ∙ s.ports_there k d within;
       ports_differ = s.ports_differ;
       insts_rise = s.insts_rise;
       insts_below = s.insts_below;
+      inst_counter = s.inst_counter;
       masters = insts_kept S.plain (rename_net S.plain id net name) o.holder (f o.holder) (masters-changed S id f (λ m. refl) o good ports) (λ at. omega (arith, wide at)) insts s.masters;
       cell = no_cell o.holder (f o.holder) o.inner refl;
     })

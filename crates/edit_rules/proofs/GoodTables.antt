@@ -96,11 +96,13 @@ module_kept M N m masters s = record {
   names = s.names;
   nets_rise = s.nets_rise;
   nets_below = s.nets_below;
+  net_counter = s.net_counter;
   ranges = s.ranges;
   ports_there = s.ports_there;
   ports_differ = s.ports_differ;
   insts_rise = s.insts_rise;
   insts_below = s.insts_below;
+  inst_counter = s.inst_counter;
   masters = masters_kept M N m masters s.masters;
   cell = s.cell;
 }
@@ -161,6 +163,7 @@ module _ (M : Plain) (g : PModule → PModule) (ids : (m : PModule) → (g m).id
     rise = rises-map (λ (m : PModule). m.id.0) g (λ m. ap (λ (at : ModId). at.0) (ids m)) M.modules sound.rise;
     below = All-map (λ (m : PModule). m.id.0 < M.next_module) g M.modules
         (All-weaker (λ (m : PModule). m.id.0 < M.next_module) (λ (m : PModule). (g m).id.0 < M.next_module) (λ m low. rw (ids m) low) M.modules sound.below);
+    counter = sound.counter;
     modules = All-map (IsSoundModule (mapped g M)) g M.modules (λ k d within. each (get_or M.modules k d) (find-own (λ (m : PModule). m.id.0) M.modules sound.rise k d within) (sound.modules k d within));
     no_cycle = no_cycle-short (mapped g M) short;
   }

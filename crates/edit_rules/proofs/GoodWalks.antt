@@ -11,10 +11,16 @@ use Rattle.flatten_rules.specs.Lookup.{module_of, inst_of, insts_of}
 use Rattle.flatten_rules.specs.Unfolding.{Occurrence, occurrences, module_up}
 use Rattle.flatten_rules.specs.Cycle.{OnCycle}
 use Rattle.flatten_rules.specs.Limits.{bits_of, WalksAreShort, IsWithin}
-use Rattle.flatten_rules.specs.Extent.{height, total, greatest_by, one, bits_in}
+use Rattle.flatten_rules.specs.Counting.{height, total, greatest_by}
 use Rattle.flatten_rules.specs.Sound.{IsSound}
 use Rattle.flatten_rules.proofs.Walks.{up-own, height-within, walks-within}
-use Rattle.edit_rules.proofs.UnfoldLemmas.{length-sum_by, total-unfolded}
+use Rattle.flatten_rules.proofs.Summing.{length-sum_by, total-unfolded}
+
+abbrev one : ModId → ℕ
+one m = 1
+
+abbrev bits_in : Plain → ModId → ℕ
+bits_in M m = bits_of (module_of M m)
 
 -- the masters of some instances stand each below one of the others', in their order
 abbrev pub AreBelow : (ModId → ModId → Type 0) → List PInst → List PInst → Type 0

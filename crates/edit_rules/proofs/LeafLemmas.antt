@@ -13,14 +13,14 @@ use Rattle.flatten_rules.specs.Lookup.{module_of, insts_of}
 use Rattle.flatten_rules.specs.Unfolding.{Occurrence, occurrences}
 use Rattle.flatten_rules.specs.Limits.{bits_of}
 use Rattle.flatten_rules.specs.Domains.{is_leaf}
-use Rattle.flatten_rules.specs.Extent.{total, height, greatest_by}
+use Rattle.flatten_rules.specs.Counting.{total, height, greatest_by}
 use Rattle.flatten_rules.proofs.Walks.{height-within, id-of_found}
 use Rattle.edit_rules.specs.Good.{IsGoodState}
 use Rattle.edit_rules.specs.Insts.{create_inst, with_new_inst, all_open}
-use Rattle.edit_rules.specs.Limits.{is_too_deep, has_too_many_occurrences, has_too_many_bits, leads_to}
+use Rattle.flatten_rules.specs.Limits.{is_too_deep, has_too_many_occurrences, has_too_many_bits, leads_to}
 use Rattle.edit_rules.specs.Facts.{totals, times, inst_after}
-use Rattle.edit_rules.proofs.HeightLemmas.{greatest-push, greatest-same}
-use Rattle.edit_rules.proofs.UnfoldLemmas.{length-sum_by, total-unfolded, leads-total}
+use Rattle.flatten_rules.proofs.Heights.{greatest-push, greatest-same}
+use Rattle.flatten_rules.proofs.Summing.{length-sum_by, total-unfolded, leads-total}
 use Rattle.edit_rules.proofs.MoreLemmas.{masters_of, sum-masters, changed-found, total-split, total-scaled, total-times, total-bits}
 use Rattle.edit_rules.proofs.OutlineLemmas.{leaf-empty, leaf-leads}
 

@@ -3,9 +3,6 @@ pub mod CheckLemmas
 pub mod TableLemmas
 pub mod ChangeLemmas
 pub mod OrderLemmas
-pub mod CountLemmas
-pub mod UnfoldLemmas
-pub mod HeightLemmas
 pub mod ApplyLemmas
 pub mod RoomLemmas
 pub mod LimitLemmas

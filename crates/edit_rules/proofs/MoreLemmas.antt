@@ -15,13 +15,13 @@ use Rattle.flatten_rules.specs.Lookup.{module_of, insts_of, width}
 use Rattle.flatten_rules.specs.Unfolding.{Occurrence, occurrences}
 use Rattle.flatten_rules.specs.Limits.{bits_of}
 use Rattle.flatten_rules.specs.Domains.{is_leaf}
-use Rattle.flatten_rules.specs.Extent.{total}
+use Rattle.flatten_rules.specs.Counting.{total}
 use Rattle.flatten_rules.proofs.Walks.{id-of_found}
 use Rattle.flatten_rules.specs.Changes.{with_module, with_insts, at_instances}
 use Rattle.edit_rules.specs.Nets.{with_net, with_port, create_net, create_port}
-use Rattle.edit_rules.specs.Limits.{has_too_many_bits}
+use Rattle.flatten_rules.specs.Limits.{has_too_many_bits}
 use Rattle.edit_rules.specs.Facts.{totals, times}
-use Rattle.edit_rules.proofs.UnfoldLemmas.{total-unfolded}
+use Rattle.flatten_rules.proofs.Summing.{total-unfolded}
 
 by_found : (b : Bool) (F : PModule → PModule) (x : PModule) (first second : Option PModule) → first ≡ option_map F second → cond b (Some (F x)) first ≡ option_map F (cond b (Some x) second)
 by_found true F x first second same = refl

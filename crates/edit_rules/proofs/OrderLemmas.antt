@@ -13,7 +13,7 @@ use Rattle.emh_base.specs.declared.edit.Edit.{Edit}
 use Rattle.emh_base.specs.declared.edit.Edit.TheVariants.{CreateModule, DeleteModule, CreateNet, DeleteNet, CreatePort, DeletePort, CreateInst, DeleteInst, Connect, Disconnect, RenameModule, RenameNet, RenameInst, Resize, Uniquify, Place, Unplace, Lock, Unlock, SetFanout, SetGrid}
 use Rattle.flatten_rules.specs.Sound.{IsSound, IsSoundModule}
 use Rattle.flatten_rules.proofs.Sound.{sound-module}
-use Rattle.edit_rules.specs.Order.{InOrder}
+use Rattle.edit_rules.specs.inside.Order.{InOrder}
 use Rattle.edit_rules.specs.Readers.{master_of, inst_in}
 use Rattle.flatten_rules.specs.Changes.{with_module, with_inst, with_insts, with_last_module, at_instances}
 use Rattle.edit_rules.specs.Insts.{with_copy}

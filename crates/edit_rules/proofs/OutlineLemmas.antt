@@ -20,10 +20,10 @@ use Rattle.flatten_rules.specs.Sound.{IsSound}
 use Rattle.flatten_rules.proofs.Walks.{find-own, id-of_found}
 use Rattle.flatten_rules.proofs.Following.{get-none_past}
 use Rattle.edit_rules.specs.Readers.{is_module, is_inst, is_net, inst_in, net_in, nets_of, master_id}
-use Rattle.edit_rules.specs.Outline.{bare_inst, bare_net, bare, outline, grown, grown_outline}
+use Rattle.edit_rules.specs.inside.Outline.{bare_inst, bare_net, bare, outline, grown, grown_outline}
 use Rattle.flatten_rules.specs.Changes.{with_module}
 use Rattle.edit_rules.specs.Insts.{with_inst_alone}
-use Rattle.edit_rules.specs.Limits.{leads_to}
+use Rattle.flatten_rules.specs.Limits.{leads_to}
 use Rattle.flatten_rules.specs.Unfolding.{Occurrence, unfolded}
 use Rattle.std.specs.List.{flat_map, list_any}
 use Rattle.edit_rules.proofs.FactsLemmas.{first-past, first-of-all}

@@ -11,7 +11,7 @@ use Rattle.flatten_rules.specs.Lookup.{module_of, inst_of}
 use Rattle.flatten_rules.specs.Unfolding.{module_up}
 use Rattle.flatten_rules.proofs.Sound.{All-find}
 use Rattle.flatten_rules.proofs.Walks.{up-own}
-use Rattle.edit_rules.specs.Order.{InOrder}
+use Rattle.edit_rules.specs.inside.Order.{InOrder}
 use Rattle.edit_rules.specs.Readers.{master_of}
 
 -- the master of an instance of a module, where both are there

@@ -8,7 +8,7 @@ use Rattle.emh_base.specs.declared.plain.PModule.{PModule}
 use Rattle.flatten_rules.specs.Domains.{ports_of}
 use Rattle.flatten_rules.proofs.Places.{item-there}
 use Rattle.edit_rules.specs.Readers.{same_port, same_ports}
-use Rattle.edit_rules.specs.Ports.{are_alike, are_alike_at}
+use Rattle.edit_rules.specs.inside.Ports.{are_alike, are_alike_at}
 
 both : (b c : Bool) → b ≡ true → c ≡ true → (b && c) ≡ true
 both true c first second = second

@@ -5,7 +5,7 @@ use Rattle.emh_base.specs.declared.state.State.{State}
 use Rattle.emh_base.specs.declared.edit.Edit.{Edit}
 use Rattle.emh_base.specs.declared.edit.Edit.TheVariants.{CreateModule, CreateNet, CreatePort, CreateInst, Uniquify}
 use Rattle.edit_rules.specs.Readers.{lacks_room}
-use Rattle.edit_rules.specs.Check.{first_broken}
+use Rattle.flatten_rules.specs.Check.{first_broken}
 use Rattle.edit_rules.specs.Apply.{checks, HasRoom}
 use Rattle.edit_rules.proofs.GoodChecks.{Passes, first-passes, common-passes}
 

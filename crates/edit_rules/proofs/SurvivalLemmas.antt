@@ -16,7 +16,7 @@ use Rattle.emh_base.specs.declared.edit.By.{By}
 use Rattle.emh_base.specs.declared.edit.Edit.{Edit}
 use Rattle.emh_base.specs.declared.edit.Edit.TheVariants.{Place, Unplace}
 use Rattle.emh_base.proofs.PlacesLemmas.{path_apart}
-use Rattle.edit_rules.specs.Check.{first_broken}
+use Rattle.flatten_rules.specs.Check.{first_broken}
 use Rattle.edit_rules.specs.Good.{IsGoodState}
 use Rattle.edit_rules.specs.Spots.{is_leaf_path, kept}
 use Rattle.edit_rules.specs.Carry.{carry, carried_entry, carried}

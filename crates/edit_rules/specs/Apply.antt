@@ -1,4 +1,5 @@
--- The effect of an edit: what refuses it, or the state after it and the change that is told of it. This project's own.
+-- The effect of an edit: what refuses it, or the state after it and the change that is told of it.
+-- This project's own.
 use Rattle.std.specs.Prelude.{◌≡◌, ℕ, ◌<◌, true, false, List, [], ◌∷◌, Option, Some, None, option_and_then, option_to_list}
 use Rattle.std.specs.FinMap.{insert, remove}
 use Rattle.emh_base.specs.declared.plain.Conn.{Conn}
@@ -12,7 +13,8 @@ use Rattle.emh_base.specs.declared.edit.Edit.{Edit}
 use Rattle.emh_base.specs.declared.edit.Edit.TheVariants.{CreateModule, DeleteModule, CreateNet, DeleteNet, CreatePort, DeletePort, CreateInst, DeleteInst, Connect, Disconnect, RenameModule, RenameNet, RenameInst, Resize, Uniquify, Place, Unplace, Lock, Unlock, SetFanout, SetGrid}
 use Rattle.emh_base.specs.Places.{PlacesByPath}
 use Rattle.flatten_rules.specs.Lookup.{module_of}
-use Rattle.edit_rules.specs.Check.{Check, first_broken}
+use Rattle.flatten_rules.specs.Check.{first_broken}
+use Rattle.edit_rules.specs.Check.{Check}
 use Rattle.edit_rules.specs.Readers.{next_net_of, next_inst_of, inst_in, conns_of, conn_of}
 use Rattle.edit_rules.specs.Modules.{create_module, create_module_rules, delete_module, delete_module_rules, rename_module, rename_module_rules, with_lock, lock_rules, unlock_rules}
 use Rattle.edit_rules.specs.Nets.{create_net, create_net_rules, delete_net, delete_net_rules, create_port, create_port_rules, delete_port, delete_port_rules, rename_net, rename_net_rules}
@@ -76,12 +78,13 @@ with_place (Unplace path) places = remove places path
 with_place _ places = places
 
 abbrev pub settings_after : Settings → Edit → Settings
-settings_after settings (SetFanout max cell) = record settings { fanout = Some (record { max = max; cell = cell }) }
+settings_after settings (SetFanout max cell) =
+    record settings { fanout = Some (record { max = max; cell = cell }) }
 settings_after settings (SetGrid grid) = record settings { grid = Some grid }
 settings_after settings _ = settings
 
--- the state after an edit: placements go where their paths are carried, and are kept where a block instance is then,
--- but for the one that is named
+-- the state after an edit: placements go where their paths are carried, and are kept where a block
+-- instance is then, but for the one that is named
 abbrev pub after : State → Edit → State
 after S e = record {
   plain = table_after S.plain e;
@@ -133,4 +136,5 @@ state_of (Done S told) = Some S
 
 abbrev pub done_in_order : State → List (By × Edit) → Option State
 done_in_order S [] = Some S
-done_in_order S (step ∷ steps) = option_and_then (λ T. done_in_order T steps) (state_of (apply S step.0 step.1))
+done_in_order S (step ∷ steps) =
+    option_and_then (λ T. done_in_order T steps) (state_of (apply S step.0 step.1))

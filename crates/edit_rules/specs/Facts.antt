@@ -1,5 +1,6 @@
--- What is read of a state to judge an edit. Where a net, a port or an instance isn't there, there is nothing to see.
-use Rattle.std.specs.Prelude.{ℕ, ◌==◌, Bool, true, false, nat_lt, List, [], Option, Some, None, option_map, option_and_then, find, slice_get, bytes_eq, length, count_by, sum_by, if◌then◌else◌}
+-- What is read of a state to judge an edit. Where a net, a port or an instance isn't there, there
+-- is nothing to see.
+use Rattle.std.specs.Prelude.{ℕ, ◌==◌, Bool, true, false, nat_lt, List, [], Option, Some, None, option_map, option_and_then, find, slice_get, bytes_eq, length, if◌then◌else◌}
 use Rattle.std.specs.FinMap.{get}
 use Rattle.emh_base.specs.declared.ids.ModId.{ModId}
 use Rattle.emh_base.specs.declared.ids.NetId.{NetId}
@@ -15,8 +16,8 @@ use Rattle.emh_base.specs.declared.plain.PModule.{PModule}
 use Rattle.emh_base.specs.declared.state.State.{State}
 use Rattle.emh_base.specs.Places.{PlacesByPath}
 use Rattle.flatten_rules.specs.Lookup.{module_of, insts_of}
-use Rattle.flatten_rules.specs.Unfolding.{Occurrence, occurrences}
-use Rattle.flatten_rules.specs.Limits.{bits_of}
+use Rattle.flatten_rules.specs.Unfolding.{occurrences}
+use Rattle.flatten_rules.specs.Limits.{bits_below, times_below}
 use Rattle.flatten_rules.specs.Domains.{ports_of}
 use Rattle.flatten_rules.specs.Root.{bit_of}
 use Rattle.flatten_rules.specs.Design as design
@@ -36,10 +37,14 @@ abbrev pub module_named : State → List ℕ → Option ModId
 module_named S name = option_map (λ m. m.id) (design.module_named S.plain name)
 
 abbrev pub net_named : State → ModId → List ℕ → Option NetId
-net_named S m name = option_map (λ net. net.id) (find (λ net. bytes_eq net.name name) (nets_of (module_of S.plain m)))
+net_named S m name =
+    option_map (λ net. net.id)
+    (find (λ net. bytes_eq net.name name) (nets_of (module_of S.plain m)))
 
 abbrev pub inst_named : State → ModId → List ℕ → Option InstId
-inst_named S m name = option_map (λ inst. inst.id) (find (λ inst. bytes_eq inst.name name) (insts_of (module_of S.plain m)))
+inst_named S m name =
+    option_map (λ inst. inst.id)
+    (find (λ inst. bytes_eq inst.name name) (insts_of (module_of S.plain m)))
 
 -- names
 
@@ -75,15 +80,20 @@ is_past (Some last) id = nat_lt last id
 
 abbrev pub net_after : State → ModId → Option NetId → Option NetId
 net_after S m last =
-    option_map (λ net. net.id) (find (λ net. is_past (option_map (λ (n : NetId). n.0) last) net.id.0) (nets_of (module_of S.plain m)))
+    option_map (λ net. net.id)
+    (find (λ net. is_past (option_map (λ (n : NetId). n.0) last) net.id.0)
+    (nets_of (module_of S.plain m)))
 
 abbrev pub inst_after : State → ModId → Option InstId → Option InstId
 inst_after S m last =
-    option_map (λ inst. inst.id) (find (λ inst. is_past (option_map (λ (n : InstId). n.0) last) inst.id.0) (insts_of (module_of S.plain m)))
+    option_map (λ inst. inst.id)
+    (find (λ inst. is_past (option_map (λ (n : InstId). n.0) last) inst.id.0)
+    (insts_of (module_of S.plain m)))
 
 abbrev pub module_after : State → Option ModId → Option ModId
 module_after S last =
-    option_map (λ m. m.id) (find (λ m. is_past (option_map (λ (n : ModId). n.0) last) m.id.0) S.plain.modules)
+    option_map (λ m. m.id)
+    (find (λ m. is_past (option_map (λ (n : ModId). n.0) last) m.id.0) S.plain.modules)
 
 -- instances
 
@@ -100,22 +110,26 @@ is_open S m inst port = is_open_conn (conn_of S.plain (inst_in S.plain m inst) p
 
 -- the source of one bit of a connection; none where it is open
 abbrev pub src_at : State → ModId → InstId → NetId → ℕ → Option Src
-src_at S m inst port offset = option_and_then (λ conn. bit_of conn offset) (conn_of S.plain (inst_in S.plain m inst) port)
+src_at S m inst port offset =
+    option_and_then (λ conn. bit_of conn offset) (conn_of S.plain (inst_in S.plain m inst) port)
 
 -- numbers
 
 abbrev pub counters : State → ModId → Counters
-counters S m = record { next_net = next_net_of (module_of S.plain m); next_inst = next_inst_of (module_of S.plain m) }
+counters S m = record {
+  next_net = next_net_of (module_of S.plain m);
+  next_inst = next_inst_of (module_of S.plain m);
+}
 
 abbrev pub totals : State → Totals
 totals S = record {
   occurrences = length (occurrences S.plain S.top);
-  bits = sum_by (λ (o : Occurrence). bits_of (module_of S.plain o.1)) (occurrences S.plain S.top);
+  bits = bits_below S.plain S.top;
 }
 
 -- how many occurrences are of the module
 abbrev pub times : State → ModId → ℕ
-times S m = count_by (λ (o : Occurrence). o.1.0 == m.0) (occurrences S.plain S.top)
+times S m = times_below S.plain S.top m
 
 -- what is at a path
 

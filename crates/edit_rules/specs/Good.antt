@@ -15,10 +15,11 @@ pub record IsFanout (M : Plain) (fanout : Fanout) : Type 0 where
   pub buffer : IsTrue (is_buffer (module_of M fanout.cell))
   pub number : is_bad_fanout fanout.max ≡ false
 
--- A good state: its table is sound and, at a top that is there and no leaf, within the limits; what is placed is a block
--- instance; each setting that is there is in order.
+-- A good state: its table is sound and, at a top that is there and no leaf, within the limits; what
+-- is placed is a block instance; each setting that is there is in order.
 pub record IsGoodState (S : State) : Type 0 where
   pub table : IsGood S.plain S.top
-  pub placed : (path : List InstId) → IsSome (get S.places path) → IsTrue (is_leaf_path S.plain S.top path)
+  pub placed : (path : List InstId) → IsSome (get S.places path)
+      → IsTrue (is_leaf_path S.plain S.top path)
   pub fanout : (limit : Fanout) → S.settings.fanout ≡ Some limit → IsFanout S.plain limit
   pub grid : (width : ℕ) → S.settings.grid ≡ Some width → is_bad_grid width ≡ false

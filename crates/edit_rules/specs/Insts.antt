@@ -1,5 +1,5 @@
--- The edits of instances: for each the rules in the order in which they are looked at. The table after each is that of
--- InstChanges.
+-- The edits of instances: for each the rules in the order in which they are looked at. The table
+-- after each is that of InstChanges.
 use Rattle.std.specs.Prelude.{ℕ, ◌==◌, not, ◌&&◌, nat_le, List, [], ◌∷◌, ◌++◌, length, flat_map}
 use Rattle.emh_base.specs.declared.ids.ModId.{ModId}
 use Rattle.emh_base.specs.declared.ids.NetId.{NetId}
@@ -13,7 +13,7 @@ use Rattle.flatten_rules.specs.Lookup.{module_of, width_of}
 use Rattle.flatten_rules.specs.Domains.{is_leaf}
 use Rattle.edit_rules.specs.Check.{Check, check}
 use Rattle.edit_rules.specs.Readers.{is_module, next_inst_of, lacks_room, is_name_in, is_module_name, is_net, is_port, is_inst, net_in, inst_in, master_id, master_of, users, conn_of, is_connected, same_ports}
-use Rattle.edit_rules.specs.Limits.{is_too_deep, has_too_many_occurrences, has_too_many_bits, leads_to}
+use Rattle.flatten_rules.specs.Limits.{is_too_deep, has_too_many_occurrences, has_too_many_bits, leads_to}
 use Rattle.edit_rules.specs.Modules.{common}
 pub use Rattle.flatten_rules.specs.InstChanges.{all_open, new_inst, with_inst_alone, with_new_inst, create_inst, delete_inst, set_conn, with_conn, connect, disconnect, rename_inst, with_master, with_copy, uniquify}
 
@@ -27,14 +27,17 @@ create_inst_rules S m name master =
     ∷ check Recursive (Module master) (leads_to S.plain master m)
     ∷ check TooDeep (Module master) (is_too_deep (create_inst S.plain m name master))
     ∷ check TooManyObjects (Module m) (lacks_room (next_inst_of (module_of S.plain m)) 1)
-    ∷ check TooManyOccurrences (Module master) (has_too_many_occurrences (create_inst S.plain m name master) S.top)
-    ∷ check TooManyBits (Module master) (has_too_many_bits (create_inst S.plain m name master) S.top)
+    ∷ check TooManyOccurrences (Module master)
+    (has_too_many_occurrences (create_inst S.plain m name master) S.top)
+    ∷ check TooManyBits (Module master)
+    (has_too_many_bits (create_inst S.plain m name master) S.top)
     ∷ []
 
 -- DeleteInst: removes it with its connections
 
 abbrev pub delete_inst_rules : State → ModId → InstId → List Check
-delete_inst_rules S m inst = common S m ++ check NoSuchInst (Inst m inst) (not (is_inst S.plain m inst)) ∷ []
+delete_inst_rules S m inst =
+    common S m ++ check NoSuchInst (Inst m inst) (not (is_inst S.plain m inst)) ∷ []
 
 -- what is looked at where an edit names a port of an instance's master
 abbrev pub names_port : State → ModId → InstId → NetId → List Check
@@ -64,7 +67,8 @@ width_rules S m inst port bits =
 
 abbrev pub connect_rules : State → ModId → InstId → NetId → List Src → List Check
 connect_rules S m inst port bits =
-    common S m ++ names_port S m inst port ++ flat_map (source_rules S m) bits ++ width_rules S m inst port (length bits)
+    common S m ++ names_port S m inst port ++ flat_map (source_rules S m) bits
+    ++ width_rules S m inst port (length bits)
 
 -- Disconnect: the connection becomes Open
 

@@ -4,10 +4,12 @@ use Rattle.emh_base.specs.declared.state.State.{State}
 use Rattle.emh_base.specs.declared.edit.Change.{Change}
 use Rattle.edit_rules.specs.declared.judged.Judged.{Judged}
 use Rattle.edit_rules.specs.declared.judged.Judged.TheVariants.{Rule, NoMemory}
-use Rattle.edit_rules.specs.Check.{Check, first_broken}
+use Rattle.flatten_rules.specs.Check.{first_broken}
+use Rattle.edit_rules.specs.Check.{Check}
 use Rattle.edit_rules.specs.Apply.{Applied, Refused, Done}
 
--- the rules are looked at in their order: it is Ok where all are kept, and else the first broken one is told
+-- the rules are looked at in their order: it is Ok where all are kept, and else the first broken
+-- one is told
 abbrev pub Looks : {X : Type 0} → List Check → Result X Judged → Type 0
 Looks rules (Ok done) = first_broken rules ≡ None
 Looks rules (Err (Rule refusal)) = first_broken rules ≡ Some refusal

@@ -1,6 +1,5 @@
 pub mod Check
 pub mod Readers
-pub mod Limits
 pub mod Modules
 pub mod Nets
 pub mod Insts
@@ -11,11 +10,8 @@ pub mod Apply
 pub mod Survival
 pub mod Good
 pub mod Judged
-pub mod Order
-pub mod Count
 pub mod Facts
 pub mod Examples
-pub mod Ports
-pub mod Outline
 pub mod Opening
 pub mod Law
+pub mod inside

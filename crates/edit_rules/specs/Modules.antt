@@ -1,5 +1,5 @@
--- The edits of modules: for each the rules in the order in which they are looked at. The table after each is that of
--- ModuleChanges.
+-- The edits of modules: for each the rules in the order in which they are looked at. The table
+-- after each is that of ModuleChanges.
 use Rattle.std.specs.Prelude.{ℕ, ◌==◌, not, nat_lt, List, [], ◌∷◌, ◌++◌}
 use Rattle.emh_base.specs.declared.ids.ModId.{ModId}
 use Rattle.emh_base.specs.declared.state.State.{State}
@@ -41,7 +41,8 @@ delete_module_rules S m =
 -- RenameModule: a new name
 
 abbrev pub rename_module_rules : State → ModId → List ℕ → List Check
-rename_module_rules S m name = common S m ++ check NameTaken NewName (is_module_name S.plain name) ∷ []
+rename_module_rules S m name =
+    common S m ++ check NameTaken NewName (is_module_name S.plain name) ∷ []
 
 -- Lock and Unlock: the lock is set or cleared
 

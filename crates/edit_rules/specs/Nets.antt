@@ -1,5 +1,5 @@
--- The edits of nets and ports: for each the rules in the order in which they are looked at. The table after each is
--- that of NetChanges.
+-- The edits of nets and ports: for each the rules in the order in which they are looked at. The
+-- table after each is that of NetChanges.
 use Rattle.std.specs.Prelude.{ℕ, not, List, [], ◌∷◌, ◌++◌, Option}
 use Rattle.emh_base.specs.declared.ids.ModId.{ModId}
 use Rattle.emh_base.specs.declared.ids.NetId.{NetId}
@@ -11,7 +11,7 @@ use Rattle.emh_base.specs.declared.rule.Object.TheVariants.{Module, Net, Port, N
 use Rattle.flatten_rules.specs.Lookup.{module_of}
 use Rattle.edit_rules.specs.Check.{Check, check}
 use Rattle.edit_rules.specs.Readers.{next_net_of, lacks_room, is_name_in, is_net, is_port, is_too_wide, is_port_used, is_net_used}
-use Rattle.edit_rules.specs.Limits.{has_too_many_bits}
+use Rattle.flatten_rules.specs.Limits.{has_too_many_bits}
 use Rattle.edit_rules.specs.Modules.{common}
 pub use Rattle.flatten_rules.specs.NetChanges.{new_net, with_net, create_net, without_net, delete_net, with_port, create_port, without_port, without_conn, delete_port, renamed, rename_net}
 
@@ -36,7 +36,8 @@ delete_net_rules S m net =
     ∷ check NetInUse (Net m net) (is_net_used (module_of S.plain m) net)
     ∷ []
 
--- CreatePort: a new net and a last port; each instance of the module gets Open there, as its last connection
+-- CreatePort: a new net and a last port; each instance of the module gets Open there, as its last
+-- connection
 
 abbrev pub create_port_rules : State → ModId → List ℕ → Dir → Option Range → List Check
 create_port_rules S m name dir range =
@@ -47,7 +48,8 @@ create_port_rules S m name dir range =
     ∷ check TooManyBits (Module m) (has_too_many_bits (create_port S.plain m name dir range) S.top)
     ∷ []
 
--- DeletePort: removes the port, its net, and the connection at its place in each instance of the module
+-- DeletePort: removes the port, its net, and the connection at its place in each instance of the
+-- module
 
 abbrev pub delete_port_rules : State → ModId → NetId → List Check
 delete_port_rules S m port =

@@ -6,8 +6,8 @@ use Rattle.emh_base.specs.declared.plain.Plain.{Plain}
 use Rattle.flatten_rules.specs.Design.{module_named}
 use Rattle.edit_rules.specs.declared.opening.OpenFault.{OpenFault}
 use Rattle.edit_rules.specs.declared.opening.OpenFault.TheVariants.{NoSuchModule, IsCell, TooDeep, TooManyOccurrences, TooManyBits, NoMemory}
-use Rattle.edit_rules.specs.Check.{first_broken}
-use Rattle.edit_rules.specs.Limits.{is_too_deep, has_too_many_occurrences, has_too_many_bits}
+use Rattle.flatten_rules.specs.Check.{first_broken}
+use Rattle.flatten_rules.specs.Limits.{is_too_deep, has_too_many_occurrences, has_too_many_bits}
 
 -- what is looked at in a module that is to be the top, in this order
 abbrev pub top_rules : Plain → PModule → List (Bool × OpenFault)

@@ -1,4 +1,5 @@
--- What the rules look at in a module table. Where the module, net, port or instance isn't there, there is nothing to see.
+-- What the rules look at in a module table. Where the module, net, port or instance isn't there,
+-- there is nothing to see.
 use Rattle.std.specs.Prelude.{ℕ, ◌+◌, ◌==◌, Bool, true, false, ◌&&◌, ◌||◌, nat_lt, List, [], ◌∷◌, Option, Some, None, is_some, bytes_eq, slice_get, sum_by, count_by, length, zip}
 use Rattle.std.specs.List.{list_any, list_all}
 use Rattle.emh_base.specs.declared.ids.ModId.{ModId}
@@ -52,7 +53,9 @@ is_module_name M name = list_any (λ m. bytes_eq m.name name) M.modules
 
 -- a net or an instance of the module has the name
 abbrev pub is_name_in : Option PModule → List ℕ → Bool
-is_name_in m name = list_any (λ net. bytes_eq net.name name) (nets_of m) || list_any (λ inst. bytes_eq inst.name name) (insts_of m)
+is_name_in m name =
+    list_any (λ net. bytes_eq net.name name) (nets_of m)
+    || list_any (λ inst. bytes_eq inst.name name) (insts_of m)
 
 -- nets, ports and instances of a module
 
@@ -68,7 +71,8 @@ is_inst M m inst = is_some (inst_in M m inst)
 -- a range with an index above 65,535, or of more than 4,096 bits
 abbrev pub is_too_wide : Option Range → Bool
 is_too_wide None = false
-is_too_wide (Some range) = nat_lt 65535 range.left || (nat_lt 65535 range.right || nat_lt 4096 (width (Some range)))
+is_too_wide (Some range) =
+    nat_lt 65535 range.left || (nat_lt 65535 range.right || nat_lt 4096 (width (Some range)))
 
 -- masters
 
@@ -111,7 +115,8 @@ uses_place m place inst = (inst.master.0 == m.0) && is_connected (conn_at place 
 -- an instance of the module is connected at the port
 abbrev pub is_port_used : Plain → ModId → NetId → Bool
 is_port_used M m port =
-    list_any (λ holder. list_any (uses_place m (port_place (module_of M m) port)) holder.insts) M.modules
+    list_any (λ holder. list_any (uses_place m (port_place (module_of M m) port)) holder.insts)
+    M.modules
 
 -- sources
 
@@ -152,7 +157,8 @@ same_port m other a b = same_dir a.dir b.dir && same_net (net_of m a.net) (net_o
 -- the ports of two modules are as many, and alike in name, direction and range one by one
 abbrev pub same_ports : Option PModule → Option PModule → Bool
 same_ports (Some m) (Some other) =
-    (length m.ports == length other.ports) && list_all (λ (p : PPort × PPort). same_port m other p.0 p.1) (zip m.ports other.ports)
+    (length m.ports == length other.ports)
+    && list_all (λ (p : PPort × PPort). same_port m other p.0 p.1) (zip m.ports other.ports)
 same_ports _ _ = false
 
 -- buffers

@@ -1,4 +1,5 @@
--- The edits of placements, the rules of each in the order in which they are looked at, and which placements are kept.
+-- The edits of placements, the rules of each in the order in which they are looked at, and which
+-- placements are kept.
 use Rattle.std.specs.Prelude.{Bool, true, false, not, List, [], ◌∷◌, ◌++◌, reverse, Option, Some, None, is_none}
 use Rattle.std.specs.FinMap.{get, retain_keys}
 use Rattle.emh_base.specs.declared.ids.ModId.{ModId}

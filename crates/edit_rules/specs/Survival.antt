@@ -9,7 +9,8 @@ use Rattle.edit_rules.specs.Spots.{is_leaf_path}
 use Rattle.edit_rules.specs.Carry.{carry}
 use Rattle.edit_rules.specs.Apply.{after}
 
--- the block instance at p survives an edit as the one at q: the edit carries p to q, and a block instance is there
+-- the block instance at p survives an edit as the one at q: the edit carries p to q, and a block
+-- instance is there
 pub record Survives (S : State) (e : Edit) (p q : List InstId) : Type 0 where
   pub before : IsTrue (is_leaf_path S.plain S.top p)
   pub carried : carry S e p ≡ Some q

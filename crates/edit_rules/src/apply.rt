@@ -4,7 +4,7 @@ ghost use Rattle.std.specs.Prelude.{◌≡◌, ◌<◌, ℕ, Some, AllPairs, opt
 ghost use Rattle.emh_base.specs.declared.plain.PModule.{PModule};
 ghost use Rattle.flatten_rules.specs.Lookup.{module_of};
 ghost use Rattle.flatten_rules.specs.Sound.{IsSound};
-ghost use Rattle.edit_rules.specs.Order.{InOrder};
+ghost use Rattle.edit_rules.specs.inside.Order.{InOrder};
 ghost use Rattle.edit_rules.specs.Readers.{next_net_of, next_inst_of, conns_of, conn_of, inst_in};
 ghost use Rattle.edit_rules.specs.Spots.{kept};
 ghost use Rattle.edit_rules.specs.Judged.{Answers};

@@ -6,7 +6,7 @@ ghost use Rattle.emh_base.specs.declared.state.Fanout.{Fanout};
 ghost use Rattle.flatten_rules.specs.Lookup.{module_of};
 ghost use Rattle.flatten_rules.specs.Design.{IsGood, IsInner};
 ghost use Rattle.flatten_rules.specs.Sound.{IsSound};
-ghost use Rattle.edit_rules.specs.Order.{InOrder};
+ghost use Rattle.edit_rules.specs.inside.Order.{InOrder};
 ghost use Rattle.edit_rules.specs.Readers.{is_buffer, is_bad_grid};
 ghost use Rattle.edit_rules.specs.Spots.{is_leaf_path};
 ghost use Rattle.edit_rules.specs.Good.{IsFanout, IsGoodState};

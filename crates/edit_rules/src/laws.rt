@@ -1,5 +1,4 @@
-ghost use Rattle.edit_rules.specs.Examples.{LocksBeforeNames, SourcesBeforeWidths, EachInstanceGetsThePort, NamesAreRead, PortsAreRead, InstancesAreRead, UnfoldingIsRead};
-ghost use Rattle.edit_rules.specs.Limits.{IsWithinByTests, CountsOccurrences};
+ghost use Rattle.edit_rules.specs.Examples.{LocksBeforeNames, SourcesBeforeWidths, EachInstanceGetsThePort, ModulesAreRead, NamesAreRead, UsesAreRead, PortsAreRead, InstancesAreRead, UnfoldingIsRead};
 ghost use Rattle.edit_rules.specs.Law.{StaysGood, StaysGoodInOrder, SurvivorsStayPlaced, OnlySurvivorsArePlaced, SurvivorsStayPlacedInOrder};
 
 /// The definitions tried on edits of the worked example.
@@ -11,7 +10,9 @@ pub fn worked_edits()
 
 /// What is read of a design, tried on the worked example with a bus.
 pub fn worked_readers()
+    ensures modules { ModulesAreRead }
     ensures names { NamesAreRead }
+    ensures uses { UsesAreRead }
     ensures ports { PortsAreRead }
     ensures instances { InstancesAreRead }
     ensures unfolding { UnfoldingIsRead }
@@ -30,11 +31,4 @@ pub fn survivors_stay_placed()
     ensures one { SurvivorsStayPlaced }
     ensures only { OnlySurvivorsArePlaced }
     ensures all { SurvivorsStayPlacedInOrder }
-{}
-
-/// The law of limits: a sound table is within them exactly where none is passed, and what is counted once a module is the
-/// sum over the unfolding. The contract is what this is for.
-pub fn each_limit_is_tested()
-    ensures tests { IsWithinByTests }
-    ensures counts { CountsOccurrences }
 {}

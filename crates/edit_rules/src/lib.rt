@@ -3,15 +3,12 @@
 
 mod apply;
 mod changes;
-mod count;
-mod depth;
 mod facts;
 mod good;
 mod insts;
 mod judged;
 mod judging;
 mod laws;
-mod limits;
 mod modules;
 mod nets;
 mod opening;
@@ -26,7 +23,5 @@ pub use apply::apply_plain;
 pub use facts::{Facts, Spot, Totals};
 pub use good::is_good_state;
 pub use judged::{Judged, judge};
-pub use laws::{
-    each_edit_stays_good, each_limit_is_tested, survivors_stay_placed, worked_edits, worked_readers,
-};
+pub use laws::{each_edit_stays_good, survivors_stay_placed, worked_edits, worked_readers};
 pub use opening::{OpenFault, fit};

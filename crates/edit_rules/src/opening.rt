@@ -1,13 +1,12 @@
 ghost use Rattle.std.specs.Prelude.{◌≡◌, false, Some, None, [], ◌∷◌, IfOk};
 ghost use Rattle.flatten_rules.specs.Sound.{IsSound};
 ghost use Rattle.flatten_rules.specs.Design.{IsGood, module_named};
-ghost use Rattle.edit_rules.specs.Check.{first_broken};
+ghost use Rattle.flatten_rules.specs.Check.{first_broken};
 ghost use Rattle.edit_rules.specs.Opening.{top_rules, open_fault, open_code, FaultLooks, top_named};
 
-use crate::depth::is_too_deep;
-use crate::limits::{has_too_many_bits, has_too_many_occurrences};
 use crate::reading::module_named;
 use emh_base::{ModId, Name, NoMemory, PModule, Plain};
+use flatten_rules::{has_too_many_bits, has_too_many_occurrences, is_too_deep};
 use std::alloc::Global;
 
 /// Why a table isn't opened as a design at a top.

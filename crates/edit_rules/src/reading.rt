@@ -11,16 +11,16 @@ ghost use Rattle.flatten_rules.specs.Sound.{IsSound, IsSoundModule};
 ghost use Rattle.edit_rules.specs.Readers.{is_module, net_in, port_in, inst_in, users, conn_at, conn_of, master_of, port_place, is_port_used};
 ghost use Rattle.edit_rules.specs.Facts.{is_past, is_open_conn};
 
-use crate::count::below;
 use crate::facts::{Facts, Spot, Totals};
-use crate::limits::{NetBits, Occurrences, Of};
 use crate::readers::{is_name_in, is_net_used, is_place_used, place_of_port};
 use crate::spots::module_at;
 use emh_base::{
     Conn, Counters, Dir, InstId, List, ModId, Name, NetId, PInst, PModule, PNet, PPort, Path,
     Plain, Range, Src, State,
 };
-use flatten_rules::{Numbered, find, module_of, net_of, port_of};
+use flatten_rules::{
+    Numbered, find, module_of, net_bit_count, net_of, occurrence_count, port_of, times_below,
+};
 
 /// A module that is there.
 fn holder_of(plain: &Plain, id: ModId) -> &PModule
@@ -377,13 +377,13 @@ impl Facts for State {
 
     fn totals(&self) -> Totals {
         Totals {
-            occurrences: below(&self.plain, &Occurrences {}, self.top, 257),
-            bits: below(&self.plain, &NetBits {}, self.top, 257),
+            occurrences: occurrence_count(&self.plain, self.top),
+            bits: net_bit_count(&self.plain, self.top),
         }
     }
 
     fn times(&self, id: ModId) -> u64 {
-        below(&self.plain, &Of { id }, self.top, 257)
+        times_below(&self.plain, self.top, id)
     }
 
     fn leaf_at(&self, path: &Path) -> Spot {

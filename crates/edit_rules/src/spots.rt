@@ -2,7 +2,7 @@ ghost use Rattle.std.specs.Prelude.{◌≡◌, ◌<◌, AllPairs, IfOk};
 ghost use Rattle.std.specs.Option.{option_copied};
 ghost use Rattle.emh_base.specs.declared.plain.PModule.{PModule};
 ghost use Rattle.emh_base.specs.declared.plain.PInst.{PInst};
-ghost use Rattle.edit_rules.specs.Order.{InOrder};
+ghost use Rattle.edit_rules.specs.inside.Order.{InOrder};
 ghost use Rattle.flatten_rules.specs.Lookup.{inst_of};
 ghost use Rattle.edit_rules.specs.Readers.{master_of};
 ghost use Rattle.edit_rules.specs.Spots.{module_at, is_leaf_path, kept, may_not_move, is_fixed};

@@ -226,7 +226,7 @@ first_places-all M all count whole first = record {
 }
 
 pub sound-has_nets : (M : Plain) (m : PModule) → IsSoundModule M m → HasNets m
-sound-has_nets M m sound = record { rise = sound.nets_rise; below = sound.nets_below; ranges = sound.ranges }
+sound-has_nets M m sound = record { rise = sound.nets_rise; below = sound.nets_below; counter = sound.net_counter; ranges = sound.ranges }
 
 pub sound-has_ports : (M : Plain) (m : PModule) → IsSoundModule M m → HasPorts m
 sound-has_ports M m sound = record { there = sound.ports_there; differ = sound.ports_differ }

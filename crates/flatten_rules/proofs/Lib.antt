@@ -1,4 +1,5 @@
 pub mod Places
+pub mod FirstBroken
 pub mod Sound
 pub mod Walks
 pub mod TextLaws
@@ -6,8 +7,10 @@ pub mod Rising
 pub mod Following
 pub mod Cycling
 pub mod Checking
-pub mod Extents
-pub mod Within
+pub mod Counting
+pub mod Heights
+pub mod Summing
+pub mod LimitTests
 pub mod Unfolded
 pub mod Tracing
 pub mod Flattening

@@ -25,6 +25,7 @@ sound-no_modules = record {
   names = tt;
   rise = λ i j d below within. absurd (omega arith);
   below = λ k d within. absurd (omega arith);
+  counter = omega arith;
   modules = λ k d within. absurd (omega arith);
   no_cycle = no-cycle;
 }

@@ -62,6 +62,11 @@ option_copied-get xs i (Some x) got = ap Some got.1 ∙ sym (slice_get-get_or xs
 abbrev Parts : {X : Type 0} → (X → ℕ) → ℕ → List X → ℕ → Type 0
 Parts n number xs i = IsPartitionPoint (λ x. nat_lt (n x) number ≡ true) (λ x. nat_lt (n x) number ≡ false) xs i
 
+-- where numbers rise, the item of a number stands at the place at which it is seen
+pub position-own : {X : Type 0} (n : X → ℕ) (number : ℕ) (xs : List X) (i : ℕ) (d : X) → AllPairs (λ a b. n a < n b) xs → i < length xs → n (get_or xs i d) ≡ number → position (λ x. n x == number) xs ≡ Some i
+position-own n number xs i d rise within here =
+    position-at (λ x. n x == number) xs i d within (λ k below. let low = rise k i d below within in grind (arith, nat_tests)) (grind (arith, nat_tests))
+
 -- what a binary search finds where it stops at the number
 pub position-found : {X : Type 0} (n : X → ℕ) (number : ℕ) (xs : List X) (i : ℕ) (d : X) → Parts n number xs i → i < length xs → n (get_or xs i d) ≡ number → position (λ x. n x == number) xs ≡ Some i
 position-found n number xs i d parts within here =

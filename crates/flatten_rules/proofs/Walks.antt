@@ -17,7 +17,7 @@ use Rattle.emh_base.specs.declared.plain.Plain.{Plain}
 use Rattle.flatten_rules.specs.Lookup.{module_of, net_of, inst_of}
 use Rattle.flatten_rules.specs.Unfolding.{module_up}
 use Rattle.flatten_rules.specs.Sound.{IsSound, IsSoundModule}
-use Rattle.flatten_rules.specs.Extent.{greatest_by, height}
+use Rattle.flatten_rules.specs.Counting.{greatest_by, height}
 use Rattle.flatten_rules.proofs.Sound.{sound-module, master-there}
 
 -- in a list in rising order an item is found by its number

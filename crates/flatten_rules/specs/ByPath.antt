@@ -28,7 +28,8 @@ block_by_path M top = from_entries (block_instances M top)
 abbrev pub StandsBefore : Occurrence → Occurrence → Type 0
 StandsBefore a b = path_cmp a.0 b.0 ≡ Less
 
--- The law of paths: the entries of the maps are the lists, in preorder, where instances have rising ids.
+-- The law of paths: the entries of the maps are the lists, in preorder, where instances have rising
+-- ids.
 pub record EntriesAreLists (M : Plain) (top : ModId) : Type 0 where
   pub occurrences : entries (occurrences_by_path M top) ≡ occurrences M top
   pub block : entries (block_by_path M top) ≡ block_instances M top

@@ -1,5 +1,5 @@
--- What is looked up in a table, and how a table is changed in one of its parts. All else stays. The edits of edit_rules,
--- and tables that are kept, are told by these.
+-- What is looked up in a table, and how a table is changed in one of its parts. All else stays. The
+-- edits of edit_rules, and tables that are kept, are told by these.
 use Rattle.std.specs.Prelude.{ℕ, ◌+◌, ◌==◌, List, [], ◌∷◌, ◌++◌, map, position, Option, option_and_then, if◌then◌else◌}
 use Rattle.emh_base.specs.declared.ids.ModId.{ModId}
 use Rattle.emh_base.specs.declared.ids.NetId.{NetId}
@@ -30,14 +30,16 @@ abbrev pub port_place : Option PModule → NetId → Option ℕ
 port_place m port = position (λ other. other.net.0 == port.0) (ports_of m)
 
 abbrev pub with_module : Plain → ModId → (PModule → PModule) → Plain
-with_module M id change = record M { modules = map (λ m. if m.id.0 == id.0 then change m else m) M.modules }
+with_module M id change =
+    record M { modules = map (λ m. if m.id.0 == id.0 then change m else m) M.modules }
 
 -- each of the instances that stand in a module
 abbrev pub with_insts : (PInst → PInst) → PModule → PModule
 with_insts change m = record m { insts = map change m.insts }
 
 abbrev pub with_inst : Plain → ModId → InstId → (PInst → PInst) → Plain
-with_inst M m id change = with_module M m (with_insts (λ inst. if inst.id.0 == id.0 then change inst else inst))
+with_inst M m id change =
+    with_module M m (with_insts (λ inst. if inst.id.0 == id.0 then change inst else inst))
 
 -- a module is there last; its id is the counter
 abbrev pub with_last_module : Plain → PModule → Plain
@@ -49,5 +51,6 @@ with_conns change inst = record inst { conns = change inst.conns }
 -- each instance of a module, wherever it stands
 abbrev pub at_instances : Plain → ModId → (PInst → PInst) → Plain
 at_instances M id change = record M {
-  modules = map (with_insts (λ inst. if inst.master.0 == id.0 then change inst else inst)) M.modules;
+  modules =
+      map (with_insts (λ inst. if inst.master.0 == id.0 then change inst else inst)) M.modules;
 }

@@ -9,12 +9,14 @@ use Rattle.emh_base.specs.declared.plain.PInst.{PInst}
 use Rattle.emh_base.specs.declared.plain.PModule.{PModule}
 use Rattle.emh_base.specs.declared.plain.Plain.{Plain}
 use Rattle.flatten_rules.specs.Lookup.{net_of}
-use Rattle.flatten_rules.specs.Sound.{IsAllowed}
+use Rattle.flatten_rules.specs.Sound.{IsAllowed, IsCounter}
 
--- what a look-up of a module's nets rests on: their ids rise below the counter, and their ranges are allowed
+-- what a look-up of a module's nets rests on: their ids rise below the counter, and their ranges
+-- are allowed
 pub record HasNets (m : PModule) : Type 0 where
   pub rise : AllPairs (λ (a b : PNet). a.id.0 < b.id.0) m.nets
   pub below : All (λ (net : PNet). net.id.0 < m.next_net) m.nets
+  pub counter : IsCounter m.next_net
   pub ranges : All (λ (net : PNet). IsAllowed net.range) m.nets
 
 -- each port has a net of its own

@@ -19,7 +19,8 @@ pub record IsGood (M : Plain) (top : ModId) : Type 0 where
 abbrev pub module_named : Plain → List ℕ → Option PModule
 module_named M name = find (λ m. bytes_eq m.name name) M.modules
 
--- the module of that name may be the top of a design: it is there, no leaf, and the table is within the limits at it
+-- the module of that name may be the top of a design: it is there, no leaf, and the table is within
+-- the limits at it
 pub record Opens (M : Plain) (name : List ℕ) (top : ModId) : Type 0 where
   pub named : MatchOption (module_named M name) ⊥ (λ m. (m.id ≡ top) × (m.leaf ≡ false))
   pub within : IsWithin M top

@@ -28,13 +28,15 @@ NoneReturns G from to = (a : ℕ) → from ≤ a → a < to → Reaches G a a �
 -- the first node, at or past one, that reaches itself; none where no node from there on does
 abbrev pub IsFirstReturning : List (List ℕ) → ℕ → Option ℕ → Type 0
 IsFirstReturning G from None = NoneReturns G from (length G)
-IsFirstReturning G from (Some a) = (from ≤ a) × (a < length G) × Reaches G a a × NoneReturns G from a
+IsFirstReturning G from (Some a) =
+    (from ≤ a) × (a < length G) × Reaches G a a × NoneReturns G from a
 
 -- the places of the masters of instances; a master that isn't in the table has none
 abbrev pub places_of : Plain → List PInst → List ℕ
 places_of M insts = filter_map (λ (inst : PInst). place_of M inst.master) insts
 
--- the graph of a table: an edge for each instance, from the place of its module to that of its master
+-- the graph of a table: an edge for each instance, from the place of its module to that of its
+-- master
 abbrev pub graph_of : Plain → List (List ℕ)
 graph_of M = map (λ (m : PModule). places_of M m.insts) M.modules
 
@@ -44,7 +46,8 @@ rank_of ranks a = slice_index_or ranks a 0
 
 -- no edge leads to a higher rank
 abbrev pub NeverRises : List ℕ → List (List ℕ) → Type 0
-NeverRises ranks G = (a : ℕ) → a < length G → All (λ b. rank_of ranks b ≤ rank_of ranks a) (next G a)
+NeverRises ranks G =
+    (a : ℕ) → a < length G → All (λ b. rank_of ranks b ≤ rank_of ranks a) (next G a)
 
 -- each edge from a node leads to a lower rank
 abbrev pub Falls : List ℕ → List (List ℕ) → ℕ → Type 0

@@ -19,24 +19,33 @@ abbrev pub all_open : Option PModule → List Conn
 all_open master = map (λ port. Open) (ports_of master)
 
 abbrev pub new_inst : ℕ → List ℕ → ModId → List Conn → PInst
-new_inst id name master conns = record { id = record { 0 = id }; name = name; master = master; conns = conns }
+new_inst id name master conns = record {
+  id = record { 0 = id };
+  name = name;
+  master = master;
+  conns = conns;
+}
 
 -- the module with an instance more, which stands last and has the counter's value as its id
 abbrev pub with_inst_alone : List ℕ → ModId → List Conn → PModule → PModule
-with_inst_alone name master conns m = record m { insts = m.insts ++ new_inst m.next_inst name master conns ∷ [] }
+with_inst_alone name master conns m =
+    record m { insts = m.insts ++ new_inst m.next_inst name master conns ∷ [] }
 
 -- and the counter is raised
 abbrev pub with_new_inst : List ℕ → ModId → List Conn → PModule → PModule
-with_new_inst name master conns m = record (with_inst_alone name master conns m) { next_inst = m.next_inst + 1 }
+with_new_inst name master conns m =
+    record (with_inst_alone name master conns m) { next_inst = m.next_inst + 1 }
 
 abbrev pub create_inst : Plain → ModId → List ℕ → ModId → Plain
-create_inst M m name master = with_module M m (with_new_inst name master (all_open (module_of M master)))
+create_inst M m name master =
+    with_module M m (with_new_inst name master (all_open (module_of M master)))
 
 -- DeleteInst: the instance goes with its connections
 
 abbrev pub delete_inst : Plain → ModId → InstId → Plain
 delete_inst M m inst =
-    with_module M m (λ holder. record holder { insts = filter (λ other. not (other.id.0 == inst.0)) holder.insts })
+    with_module M m
+    (λ holder. record holder { insts = filter (λ other. not (other.id.0 == inst.0)) holder.insts })
 
 -- the connection of an instance at a port of its master is this one
 abbrev pub set_conn : Option ℕ → Conn → List Conn → List Conn
@@ -45,7 +54,8 @@ set_conn (Some place) conn conns = slice_set conns place conn
 
 abbrev pub with_conn : Plain → ModId → InstId → NetId → Conn → Plain
 with_conn M m inst port conn =
-    with_inst M m inst (with_conns (set_conn (port_place (master_of M (inst_in M m inst)) port) conn))
+    with_inst M m inst
+    (with_conns (set_conn (port_place (master_of M (inst_in M m inst)) port) conn))
 
 -- Connect: the connection becomes these bits, whatever it was
 
@@ -76,4 +86,5 @@ with_copy M (Some m) name =
 
 abbrev pub uniquify : Plain → ModId → InstId → List ℕ → Plain
 uniquify M m inst name =
-    with_master (with_copy M (master_of M (inst_in M m inst)) name) m inst (record { 0 = M.next_module })
+    with_master (with_copy M (master_of M (inst_in M m inst)) name) m inst
+    (record { 0 = M.next_module })

@@ -1,3 +1,4 @@
+pub mod Bounds
 pub mod Lookup
 pub mod Unfolding
 pub mod Root
@@ -6,10 +7,11 @@ pub mod Texts
 pub mod Cycle
 pub mod Graph
 pub mod Reach
+pub mod Check
 pub mod Sound
 pub mod Checks
 pub mod Limits
-pub mod Extent
+pub mod Counting
 pub mod Walk
 pub mod Design
 pub mod Fresh

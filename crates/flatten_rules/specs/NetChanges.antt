@@ -33,17 +33,22 @@ without_net net m = record m { nets = filter (λ other. not (other.id.0 == net.0
 abbrev pub delete_net : Plain → ModId → NetId → Plain
 delete_net M m net = with_module M m (without_net net)
 
--- CreatePort: a new net and a last port; each instance of the module gets Open there, as its last connection
+-- CreatePort: a new net and a last port; each instance of the module gets Open there, as its last
+-- connection
 
 abbrev pub with_port : List ℕ → Dir → Option Range → PModule → PModule
 with_port name dir range m =
-    record (with_net name range m) { ports = m.ports ++ record { net = record { 0 = m.next_net }; dir = dir } ∷ [] }
+    record (with_net name range m) {
+      ports = m.ports ++ record { net = record { 0 = m.next_net }; dir = dir } ∷ [];
+    }
 
 abbrev pub create_port : Plain → ModId → List ℕ → Dir → Option Range → Plain
 create_port M m name dir range =
-    at_instances (with_module M m (with_port name dir range)) m (with_conns (λ conns. conns ++ Open ∷ []))
+    at_instances (with_module M m (with_port name dir range)) m
+    (with_conns (λ conns. conns ++ Open ∷ []))
 
--- DeletePort: the port goes with its net, and with the connection at its place in each instance of the module
+-- DeletePort: the port goes with its net, and with the connection at its place in each instance of
+-- the module
 
 abbrev pub without_port : NetId → PModule → PModule
 without_port port m =
@@ -55,7 +60,8 @@ without_conn (Some place) conns = remove conns place
 
 abbrev pub delete_port : Plain → ModId → NetId → Plain
 delete_port M m port =
-    at_instances (with_module M m (without_port port)) m (with_conns (without_conn (port_place (module_of M m) port)))
+    at_instances (with_module M m (without_port port)) m
+    (with_conns (without_conn (port_place (module_of M m) port)))
 
 -- RenameNet: a new name, of the port too
 
@@ -65,4 +71,7 @@ renamed name net = record net { name = name }
 abbrev pub rename_net : Plain → ModId → NetId → List ℕ → Plain
 rename_net M m net name =
     with_module M m
-    (λ holder. record holder { nets = map (λ other. if other.id.0 == net.0 then renamed name other else other) holder.nets })
+    (λ holder. record holder {
+      nets =
+          map (λ other. if other.id.0 == net.0 then renamed name other else other) holder.nets;
+    })

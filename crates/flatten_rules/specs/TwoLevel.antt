@@ -6,7 +6,8 @@ use Rattle.flatten_rules.specs.Unfolding.{Occurrence, occurrences}
 abbrev pub occurrence : List ℕ → ℕ → Occurrence
 occurrence path m = (map (λ n. record { 0 = n }) path, record { 0 = m })
 
--- The worked example unfolds to seven occurrences: the top (3), its two pairs (2) and their inverters (0), in preorder.
+-- The worked example unfolds to seven occurrences: the top (3), its two pairs (2) and their
+-- inverters (0), in preorder.
 abbrev pub TwoLevelUnfolds : Type 0
 TwoLevelUnfolds =
     occurrences two_level (record { 0 = 3 })

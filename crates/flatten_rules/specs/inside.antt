@@ -1,3 +1,4 @@
 pub mod Steps
 pub mod Pending
 pub mod Left
+pub mod Levels

@@ -3,6 +3,8 @@ ghost use Rattle.flatten_rules.specs.ByPath.{EachPathInOrder};
 ghost use Rattle.flatten_rules.specs.Texts.{EachTextOnce};
 ghost use Rattle.flatten_rules.specs.TwoLevel.{TwoLevelUnfolds};
 ghost use Rattle.flatten_rules.specs.Walk.{EachWalkOnce};
+ghost use Rattle.flatten_rules.specs.Limits.{IsWithinByTests};
+ghost use Rattle.flatten_rules.specs.Counting.{CountsOccurrences};
 
 /// The definitions tried on the worked example.
 pub fn two_level_unfolds()
@@ -31,4 +33,11 @@ pub fn each_block_net()
 /// lists of them as their entries, in preorder. The contract is what this is for.
 pub fn each_path_in_order()
     ensures { EachPathInOrder }
+{}
+
+/// The law of limits: a sound table is within them exactly where none is passed, and what is counted once a module is the
+/// sum over the unfolding. The contract is what this is for.
+pub fn each_limit_is_tested()
+    ensures tests { IsWithinByTests }
+    ensures counts { CountsOccurrences }
 {}

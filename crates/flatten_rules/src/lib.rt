@@ -3,9 +3,10 @@
 #![tactic(auto)]
 
 mod cell;
+mod count;
 mod cycle;
+mod depth;
 mod domain;
-mod extent;
 mod flatten;
 mod laws;
 mod limits;
@@ -24,12 +25,17 @@ mod tracer;
 mod walk;
 
 pub use cycle::first_on_cycle;
+pub use depth::is_too_deep;
 pub use domain::{Fresh, FreshBit, FreshInst, FreshOcc, FreshPin};
 pub use flatten::fresh;
 pub use laws::{
-    each_block_net, each_path_in_order, each_text_once, each_walk_once, two_level_unfolds,
+    each_block_net, each_limit_is_tested, each_path_in_order, each_text_once, each_walk_once,
+    two_level_unfolds,
 };
-pub use limits::is_within;
+pub use limits::{
+    BIT_LIMIT, DEPTH_LIMIT, OCCURRENCE_LIMIT, has_too_many_bits, has_too_many_occurrences,
+    is_within, leads_to, net_bit_count, occurrence_count, times_below,
+};
 pub use lines::flat_lines;
 pub use lookup::{find, module_of, net_of, place_of_module, port_of, width};
 pub use numbered::{Numbered, place_of, rises};

@@ -1,5 +1,6 @@
 ghost use Rattle.std.specs.Prelude.{◌≡◌, ℕ, ◌==◌, ◌<◌, ◌≤◌, ◌↔◌, true, false, nat_lt, length, All, AllPairs, position, IsTrue};
 ghost use Rattle.std.specs.List.Sorted.{IsPartitionPoint};
+ghost use Rattle.flatten_rules.specs.Sound.{IsCounter};
 
 use emh_base::{PInst, PModule, PNet};
 
@@ -35,8 +36,21 @@ impl Numbered for PInst {
     }
 }
 
-/// The place of the item with a number, by binary search.
+/// The place of the item with a number. Where numbers have no gaps it is the number; else it is found by binary search.
 pub fn place_of<T: Numbered>(items: &[T], number: u32) -> Option<usize>
+    requires { AllPairs (λ a b. T.number_of a < T.number_of b) items.now }
+    ensures { result ≡ position (λ item. T.number_of item == number) items.now }
+{
+    let place = number as usize;
+    if place < items.len() && items[place].number() == number {
+        Some(place)
+    } else {
+        searched(items, number)
+    }
+}
+
+/// The place of the item with a number, by binary search.
+fn searched<T: Numbered>(items: &[T], number: u32) -> Option<usize>
     requires { AllPairs (λ a b. T.number_of a < T.number_of b) items.now }
     ensures { result ≡ position (λ item. T.number_of item == number) items.now }
 {
@@ -58,10 +72,11 @@ fn first_from<T: Numbered>(items: &[T], number: u32) -> usize
     items.partition_point(|item| item.number() < number)
 }
 
-/// Whether the numbers of the items rise, and end below a counter.
+/// Whether the numbers of the items rise, and end below a counter, which is at most 4,294,967,295.
 pub fn rises<T: Numbered>(items: &[T], counter: u32) -> bool
-    ensures { IsTrue result ↔ (AllPairs (λ a b. T.number_of a < T.number_of b) items.now
+    ensures rises { IsTrue result ↔ (AllPairs (λ a b. T.number_of a < T.number_of b) items.now
         × All (λ item. T.number_of item < counter) items.now) }
+    ensures counter { IsCounter counter }
 {
     let mut next: u64 = 0;
     for item in items {

@@ -20,7 +20,8 @@ use Rattle.vlog_read.specs.declared.tree.At.{At}
 use Rattle.vlog_elab.specs.declared.fault.ElabKind.TheVariants as kind
 use Rattle.vlog_elab.specs.declared.face.Port.{Port}
 use Rattle.vlog_elab.specs.declared.said.Said.{Said}
-use Rattle.vlog_elab.specs.Check.{check, check_at, first}
+use Rattle.flatten_rules.specs.Check.{first_broken}
+use Rattle.vlog_elab.specs.Check.{check, check_at}
 use Rattle.vlog_elab.specs.Named.{Named, named, is_there}
 use Rattle.vlog_elab.specs.Faces.{Place, Ranged, Directed, Wired, Placed, range_places, item_places, places, said, ports, row_port, row_port_on}
 use Rattle.vlog_elab.specs.Declarations.{differs_from_direction, inside_checks}
@@ -162,7 +163,7 @@ leaf-insts m false cell = λ k d within. refl
 leaf-insts m true cell = subst (λ (is : List PInst). All (λ (i : PInst). true ≡ false) is) (sym (cell refl).insts) (All-nil (λ (i : PInst). true ≡ false))
 
 -- inside a written module no rule of the first round is broken, and its ports are those of the table
-pub inside-none : (M : Plain) (m : PModule) → IsSoundModule M m → (first (inside_checks m.leaf (module_tree M m)) ≡ None) × (map (dir_entry m) m.ports ≡ ports (module_tree M m))
+pub inside-none : (M : Plain) (m : PModule) → IsSoundModule M m → (first_broken (inside_checks m.leaf (module_tree M m)) ≡ None) × (map (dir_entry m) m.ports ≡ ports (module_tree M m))
 inside-none M m s =
     let h : Named (Unit {0}) = map (port_key m) m.ports in
     let D : Named Port = map (dir_entry m) m.ports in

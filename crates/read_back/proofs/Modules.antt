@@ -26,7 +26,8 @@ use Rattle.vlog_elab.specs.declared.fault.ElabKind.TheVariants as kind
 use Rattle.vlog_elab.specs.declared.face.Port.{Port}
 use Rattle.vlog_elab.specs.declared.face.Face.{Face}
 use Rattle.vlog_elab.specs.declared.scope.Net.{Net}
-use Rattle.vlog_elab.specs.Check.{check, each_after}
+use Rattle.flatten_rules.specs.Check.{each_after}
+use Rattle.vlog_elab.specs.Check.{check}
 use Rattle.vlog_elab.specs.Named.{Named, named, is_there}
 use Rattle.vlog_elab.specs.Faces.{row_port, row_port_on}
 use Rattle.vlog_elab.specs.Steps.{Step, Declares, Places, conn_steps, item_steps, inst_steps}

@@ -20,7 +20,7 @@ use Rattle.flatten_rules.proofs.Walks.{some-there, find-own, find-passes, id-of_
 use Rattle.vlog_elab.specs.declared.face.Face.{Face}
 use Rattle.vlog_elab.specs.declared.scope.Net.{Net}
 use Rattle.vlog_elab.specs.declared.scope.Scope.{Scope}
-use Rattle.vlog_elab.specs.Check.{first}
+use Rattle.flatten_rules.specs.Check.{first_broken}
 use Rattle.vlog_elab.specs.Named.{Named, named, is_there}
 use Rattle.vlog_elab.specs.Steps.{Step, item_steps, steps}
 use Rattle.vlog_elab.specs.Connections.{inner_checks}
@@ -196,7 +196,7 @@ module _ (M : Plain) (m : PModule) (s : IsSoundModule M m) where
       no-net net-apart in
       subst (λ (xs : List Step). Passed step_walk (record { nets = []; insts = [] }) xs (record { nets = ns; insts = map inst_key m.insts })) (sym parts) (passed-then declared met)
 
-  pub inner-none : (fs : Named Face) → IsSound M → HasFaces M fs → first (inner_checks fs (module_tree M m)) ≡ None
+  pub inner-none : (fs : Named Face) → IsSound M → HasFaces M fs → first_broken (inner_checks fs (module_tree M m)) ≡ None
   inner-none fs sound faces = inner_checks-walk fs (module_tree M m) ∙ (steps-pass fs sound faces).none
 
   -- and these are its nets

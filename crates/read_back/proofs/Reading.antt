@@ -15,15 +15,16 @@ use Rattle.vlog_write.specs.Written.{written}
 use Rattle.vlog_write.specs.Law.{IsTextOf, EachTableIsSpelled}
 use Rattle.read_back.specs.Law.{EachTableReadsBack}
 use Rattle.read_back.proofs.Table.{TreeReadsBack, tree-reads-back}
+use Rattle.read_back.proofs.Counting.{countable}
 
 pub each-reads-back : EachTableIsSpelled → EachTableReadsBack
-each-reads-back spelled M sound low named =
-    let back : TreeReadsBack M = tree-reads-back M sound low in
+each-reads-back spelled M sound named =
+    let back : TreeReadsBack M = tree-reads-back M sound in
     let text : IsTextOf (tree_of M) (written M) = spelled M sound named in
     let bare_gives = subst (λ (tree : Tree). Elaborates no_modules false tree back.made) (sym text.same) back.elaborates in
     let reads : Reads no_modules false (written M) back.made =
     record { tree = text.spelled; has_tree = text.has_tree; elaborates = (places_do_not_matter no_modules false text.spelled back.made).1 bare_gives } in
-    let made_sound : IsSound back.made = stays_sound no_modules false (tree_of M) back.made sound-no_modules back.elaborates in
+    let made_sound : IsSound back.made = stays_sound no_modules false (tree_of M) back.made sound-no_modules (countable M sound) back.elaborates in
     record {
       made = back.made;
       reads = reads;

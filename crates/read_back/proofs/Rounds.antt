@@ -4,6 +4,7 @@ use Rattle.std.specs.Prelude.{◌&&◌, ◌||◌, not, Ok}
 use Rattle.std.proofs.lemmas.Bool.Decides.{nat_tests}
 use Rattle.std.proofs.lemmas.List.{append-nil}
 use Rattle.std.proofs.lemmas.List.Elements.{All-head, All-tail}
+use Rattle.std.specs.Option.{option_or}
 use Rattle.emh_base.specs.declared.plain.PModule.{PModule}
 use Rattle.emh_base.specs.declared.plain.Plain.{Plain}
 use Rattle.flatten_rules.specs.Sound.{IsSound, IsSoundModule}
@@ -14,22 +15,24 @@ use Rattle.vlog_read.specs.declared.tree.TModule.{TModule}
 use Rattle.vlog_elab.specs.declared.fault.ElabKind.TheVariants as kind
 use Rattle.vlog_elab.specs.declared.face.Face.{Face}
 use Rattle.vlog_elab.specs.declared.face.Known.{Known}
-use Rattle.vlog_elab.specs.Check.{Check, check, first}
+use Rattle.flatten_rules.specs.Check.{first_broken}
+use Rattle.vlog_elab.specs.Check.{Check, check}
 use Rattle.vlog_elab.specs.Named.{Named, named, is_there, numbered}
 use Rattle.vlog_elab.specs.Faces.{face, ports, row_port, known}
 use Rattle.vlog_elab.specs.Declarations.{is_taken, has_other_ports}
 use Rattle.vlog_elab.specs.Connections.{inner_checks}
 use Rattle.vlog_elab.specs.Elaboration.{checks}
-use Rattle.vlog_elab.specs.Walk.{Passed, or_else}
+use Rattle.vlog_elab.specs.Walk.{Passed}
 use Rattle.vlog_elab.specs.Walks.{module_walk}
 use Rattle.vlog_elab.proofs.Each.{pairs_head, pairs_tail}
-use Rattle.vlog_elab.proofs.Walking.{passed-none, passed-then, first-append}
+use Rattle.vlog_elab.proofs.Walking.{passed-none, passed-then}
 use Rattle.vlog_elab.proofs.Declaring.{module-gives}
 use Rattle.vlog_elab.proofs.Rounds.{checks_by, both-pass}
 use Rattle.vlog_elab.proofs.Naming.{there-append, there-one}
 use Rattle.named_tables.proofs.Names.{found-at, bytes_eq-refl, bytes_eq-other}
 use Rattle.vlog_write.specs.TreeOf.{module_tree, in_written_order, tree_of}
 use Rattle.flatten_rules.specs.Lookup.{no_modules}
+use Rattle.flatten_rules.proofs.FirstBroken.{first_broken-append}
 use Rattle.read_back.proofs.Steps.{clear1, clear2}
 use Rattle.read_back.proofs.Modules.{HasFaces}
 use Rattle.read_back.proofs.Nets.{inner-none}
@@ -132,20 +135,20 @@ module _ (M : Plain) (sound : IsSound M) (few : length M.modules ≤ 4294967295)
           go (p ∷ ps) = let h = row_port-is m p in let t = go ps in λ i. h i ∷ t i
 
   -- no rule of the first two rounds is broken
-  pub rounds-none : (first (checks no_modules false (tree_of M)) ≡ None) × (record { faces = faces_of M 0 (in_written_order M); next_module = 0 + length (in_written_order M) } ≡ known no_modules false (trees M (in_written_order M)))
+  pub rounds-none : (first_broken (checks no_modules false (tree_of M)) ≡ None) × (record { faces = faces_of M 0 (in_written_order M); next_module = 0 + length (in_written_order M) } ≡ known no_modules false (trees M (in_written_order M)))
   unfolding tree_of
   rounds-none =
       let passed = modules-pass M [] 0 (in_written_order M) (written-all (IsSoundModule M) M sound.modules) (λ k d within. refl) (written-differ M sound) (many M few) in
       both-pass no_modules false (tree_of M) (record { faces = []; next_module = 0 }) (record { faces = faces_of M 0 (in_written_order M); next_module = 0 + length (in_written_order M) }) (trees M (in_written_order M)) refl refl passed
       (inner-all (in_written_order M) (written-all (IsSoundModule M) M sound.modules))
     where
-      inner-all : (ms : List PModule) → All (IsSoundModule M) ms → first (checks_by (faces_of M 0 (in_written_order M)) false (trees M ms)) ≡ None
+      inner-all : (ms : List PModule) → All (IsSoundModule M) ms → first_broken (checks_by (faces_of M 0 (in_written_order M)) false (trees M ms)) ≡ None
       inner-all [] all = refl
       inner-all (m ∷ ms) all =
-          first-append (cond m.leaf [] (inner_checks (faces_of M 0 (in_written_order M)) (module_tree M m))) (checks_by (faces_of M 0 (in_written_order M)) false (trees M ms))
-          ∙ ap (λ o. or_else o (first (checks_by (faces_of M 0 (in_written_order M)) false (trees M ms)))) (unless m.leaf (inner_checks (faces_of M 0 (in_written_order M)) (module_tree M m)) (inner-none M m (All-head (IsSoundModule M) m ms all) (faces_of M 0 (in_written_order M)) sound has-faces))
+          first_broken-append (cond m.leaf [] (inner_checks (faces_of M 0 (in_written_order M)) (module_tree M m))) (checks_by (faces_of M 0 (in_written_order M)) false (trees M ms))
+          ∙ ap (λ o. option_or o (first_broken (checks_by (faces_of M 0 (in_written_order M)) false (trees M ms)))) (unless m.leaf (inner_checks (faces_of M 0 (in_written_order M)) (module_tree M m)) (inner-none M m (All-head (IsSoundModule M) m ms all) (faces_of M 0 (in_written_order M)) sound has-faces))
           ∙ inner-all ms (All-tail (IsSoundModule M) m ms all)
         where
-          unless : (b : Bool) (cs : List Check) → first cs ≡ None → first (cond b [] cs) ≡ None
+          unless : (b : Bool) (cs : List Check) → first_broken cs ≡ None → first_broken (cond b [] cs) ≡ None
           unless true cs e = refl
           unless false cs e = e

@@ -61,10 +61,10 @@ none-named es q h = at_o (named es q) h
     at_o (Some x) h = absurd (cc)
 
 -- the instances of a written module
-abbrev item_of : Plain → PModule → PInst → At × TInst
+abbrev pub item_of : Plain → PModule → PInst → At × TInst
 item_of M m inst = (name_at (module_name (module_of M inst.master)), inst_tree M m inst)
 
-insts-made : (M : Plain) (m : PModule) → insts (module_tree M m) ≡ map (item_of M m) m.insts
+pub insts-made : (M : Plain) (m : PModule) → insts (module_tree M m) ≡ map (item_of M m) m.insts
 insts-made M m =
     flat_map-append insts_in (map (port_item m) m.ports) (map wire_item (wires m) ++ map (inst_item M m) m.insts)
     ∙ ap (λ xs. flat_map insts_in (map (port_item m) m.ports) ++ xs) (flat_map-append insts_in (map wire_item (wires m)) (map (inst_item M m) m.insts))

@@ -7,6 +7,7 @@ use Rattle.std.proofs.lemmas.List.{append-nil}
 use Rattle.std.proofs.lemmas.List.Elements.{All-head, All-tail}
 use Rattle.std.proofs.lemmas.List.FromFn.{length-map-range_with_len}
 use Rattle.std.proofs.lemmas.List.Sums.{sum_by-cons}
+use Rattle.std.specs.Option.{option_or}
 use Rattle.emh_base.specs.Text.{index_of}
 use Rattle.emh_base.specs.declared.ids.NetId.{NetId}
 use Rattle.emh_base.specs.declared.plain.Range.{Range}
@@ -26,11 +27,12 @@ use Rattle.vlog_elab.specs.declared.face.Port.{Port}
 use Rattle.vlog_elab.specs.declared.scope.Net.{Net}
 use Rattle.vlog_elab.specs.declared.scope.Scope.{Scope}
 use Rattle.vlog_elab.specs.declared.fault.ElabKind.TheVariants as kind
-use Rattle.vlog_elab.specs.Check.{Check, check, check_at, first}
+use Rattle.flatten_rules.specs.Check.{first_broken}
+use Rattle.vlog_elab.specs.Check.{Check, check, check_at}
 use Rattle.vlog_elab.specs.Named.{Named, named, is_there, place_of}
 use Rattle.vlog_elab.specs.Steps.{Connects, Uses, Fits, conn_steps}
 use Rattle.vlog_elab.specs.Connections.{net_range as met_range, ports_named, mixes, has_index, part_width, port_at, width_checks}
-use Rattle.vlog_elab.specs.Walk.{Walk, Passed, or_else, first_fault, at_end}
+use Rattle.vlog_elab.specs.Walk.{Walk, Passed, first_fault, at_end}
 use Rattle.vlog_elab.specs.Walks.{step_walk, with_new}
 use Rattle.vlog_elab.proofs.Naming.{value-at}
 use Rattle.vlog_elab.proofs.Walking.{passed-none, passed-then}
@@ -39,20 +41,20 @@ use Rattle.vlog_write.specs.TreeOf.{bit_part, source_part, are_whole, first_name
 use Rattle.vlog_read.specs.Bare.{name_at}
 use Rattle.read_back.proofs.Bits.{HasBits, whole, net-there}
 
-pub passed-cons : {S X : Type 0} (w : Walk S X) (s mid t : S) (x : X) (xs : List X) → first (w.checks s x) ≡ None → w.after s x ≡ mid → Passed w mid xs t → Passed w s (x ∷ xs) t
+pub passed-cons : {S X : Type 0} (w : Walk S X) (s mid t : S) (x : X) (xs : List X) → first_broken (w.checks s x) ≡ None → w.after s x ≡ mid → Passed w mid xs t → Passed w s (x ∷ xs) t
 passed-cons w s mid t x xs clear after rest = record {
-  none = ap (λ o. or_else o (first_fault w (w.after s x) xs)) clear ∙ ap (λ s. first_fault w s xs) after ∙ rest.none;
+  none = ap (λ o. option_or o (first_fault w (w.after s x) xs)) clear ∙ ap (λ s. first_fault w s xs) after ∙ rest.none;
   end = rest.end ∙ ap (λ s. at_end w s xs) (sym after);
 }
 
-pub clear1 : (a : Check) → a.broken ≡ false → first (a ∷ []) ≡ None
-clear1 a e = ap (λ b. cond b (Some a.fault) None) e
+pub clear1 : (a : Check) → a.0 ≡ false → first_broken (a ∷ []) ≡ None
+clear1 a e = ap (λ b. cond b (Some a.1) None) e
 
-pub clear2 : (a b : Check) → a.broken ≡ false → b.broken ≡ false → first (a ∷ b ∷ []) ≡ None
-clear2 a b e f = ap (λ c. cond c (Some a.fault) (first (b ∷ []))) e ∙ clear1 b f
+pub clear2 : (a b : Check) → a.0 ≡ false → b.0 ≡ false → first_broken (a ∷ b ∷ []) ≡ None
+clear2 a b e f = ap (λ c. cond c (Some a.1) (first_broken (b ∷ []))) e ∙ clear1 b f
 
-pub clear3 : (a b c : Check) → a.broken ≡ false → b.broken ≡ false → c.broken ≡ false → first (a ∷ b ∷ c ∷ []) ≡ None
-clear3 a b c e f g = ap (λ d. cond d (Some a.fault) (first (b ∷ c ∷ []))) e ∙ clear2 b c f g
+pub clear3 : (a b c : Check) → a.0 ≡ false → b.0 ≡ false → c.0 ≡ false → first_broken (a ∷ b ∷ c ∷ []) ≡ None
+clear3 a b c e f g = ap (λ d. cond d (Some a.1) (first_broken (b ∷ c ∷ []))) e ∙ clear2 b c f g
 
 -- an index that is written is one of the range's
 pub index-in : (r : Range) (k : ℕ) → k < width (Some r) → has_index (Some r) (index_of r k) ≡ true
@@ -177,21 +179,21 @@ module _ (m : PModule) (ns : Named Net) (is : Named (Unit {0})) (knows : Knows m
       eqb-same : (a b : ℕ) → a ≡ b → not (a == b) ≡ false
       eqb-same a b e = grind (arith, nat_tests)
 
-      at_port : (bits : List Src) (p : Part) (ps : List Part) (o : Option (List ℕ × Port)) → sum_by (part_width ns) (p ∷ ps) ≡ width v.range → option_map (λ (e : List ℕ × Port). e.1) o ≡ Some v → first (width_checks ns (conn_tree m q (conn.Bits bits)) (p ∷ ps) o) ≡ None
+      at_port : (bits : List Src) (p : Part) (ps : List Part) (o : Option (List ℕ × Port)) → sum_by (part_width ns) (p ∷ ps) ≡ width v.range → option_map (λ (e : List ℕ × Port). e.1) o ≡ Some v → first_broken (width_checks ns (conn_tree m q (conn.Bits bits)) (p ∷ ps) o) ≡ None
       at_port bits p ps None sum e = refl
       at_port bits p ps (Some port) sum e =
           let same : port.1 ≡ v = cc in
           clear1 (check_at kind.WidthMismatch 0 port.0 (not (sum_by (part_width ns) (p ∷ ps) == width port.1.range)))
           (eqb-same (sum_by (part_width ns) (p ∷ ps)) (width port.1.range) (sum ∙ sym (ap (λ (x : Port). width x.range) same)))
 
-      at_place : (bits : List Src) (p : Part) (ps : List Part) (o : Option ℕ) → place_of ports q ≡ o → sum_by (part_width ns) (p ∷ ps) ≡ width v.range → first (width_checks ns (conn_tree m q (conn.Bits bits)) (p ∷ ps) (option_and_then (slice_get ports) o)) ≡ None
+      at_place : (bits : List Src) (p : Part) (ps : List Part) (o : Option ℕ) → place_of ports q ≡ o → sum_by (part_width ns) (p ∷ ps) ≡ width v.range → first_broken (width_checks ns (conn_tree m q (conn.Bits bits)) (p ∷ ps) (option_and_then (slice_get ports) o)) ≡ None
       at_place bits p ps None e sum = refl
       at_place bits p ps (Some k) e sum = at_port bits p ps (slice_get ports k) sum (value-at k q ports e ∙ known)
 
-      at_parts : (bits : List Src) (parts : List Part) → sum_by (part_width ns) parts ≡ width v.range → first (width_checks ns (conn_tree m q (conn.Bits bits)) parts (port_at ports before (Some (name_at q)))) ≡ None
+      at_parts : (bits : List Src) (parts : List Part) → sum_by (part_width ns) parts ≡ width v.range → first_broken (width_checks ns (conn_tree m q (conn.Bits bits)) parts (port_at ports before (Some (name_at q)))) ≡ None
       at_parts bits [] sum = refl
       at_parts bits (p ∷ ps) sum = at_place bits p ps (place_of ports q) refl sum
 
-      fits : (c : Conn) → HasBits m c (width v.range) → first (width_checks ns (conn_tree m q c) (conn_parts m c) (port_at ports before (Some (name_at q)))) ≡ None
+      fits : (c : Conn) → HasBits m c (width v.range) → first_broken (width_checks ns (conn_tree m q c) (conn_parts m c) (port_at ports before (Some (name_at q)))) ≡ None
       fits conn.Open has = refl
       fits (conn.Bits bits) has = at_parts bits (parts_of m bits) (parts-width bits has.1 ∙ has.0)

@@ -16,7 +16,7 @@ use Rattle.flatten_rules.proofs.Walks.{find-passes, find-own}
 use Rattle.vlog_read.specs.declared.tree.TModule.{TModule}
 use Rattle.vlog_elab.specs.declared.face.Face.{Face}
 use Rattle.vlog_elab.specs.declared.face.Known.{Known}
-use Rattle.vlog_elab.specs.Check.{each_after}
+use Rattle.flatten_rules.specs.Check.{each_after}
 use Rattle.vlog_elab.specs.Named.{Named, named, numbered}
 use Rattle.vlog_elab.specs.Faces.{face, has_module, added, faces}
 use Rattle.vlog_elab.specs.Table.{row, built}
@@ -204,9 +204,9 @@ pub record TreeReadsBack (M : Plain) : Type 0 where
   pub elaborates : Elaborates no_modules false (tree_of M) made
   pub same : named_table made ≡ named_table M
 
-pub tree-reads-back : (M : Plain) → IsSound M → M.next_module ≤ 4294967295 → TreeReadsBack M
-tree-reads-back M sound low =
-    let few : length M.modules ≤ 4294967295 = few-modules M sound low in
+pub tree-reads-back : (M : Plain) → IsSound M → TreeReadsBack M
+tree-reads-back M sound =
+    let few : length M.modules ≤ 4294967295 = few-modules M sound in
     let made : Plain = built no_modules false (tree_of M) in
     record {
       made = made;

@@ -70,14 +70,14 @@ many M few = omega (arith, few, parts M.modules, length-append (filter leaf M.mo
         at_b true e = omega (arith, e)
         at_b false e = omega (arith, e)
 
--- ids that rise below a number are no more than that
-rises-from : (xs : List PModule) → AllPairs (λ (a b : PModule). a.id.0 < b.id.0) xs → (k : ℕ) (d : PModule) → k < length xs → k ≤ (get_or xs k d).id.0
-rises-from xs rise zero d within = omega arith
-rises-from xs rise (suc k) d within = omega (arith, rises-from xs rise k d (omega (arith, within)), rise k (suc k) d (omega arith) within)
+-- numbers that rise below one are no more than that
+rises-from : {X : Type 0} (n : X → ℕ) (xs : List X) → AllPairs (λ a b. n a < n b) xs → (k : ℕ) (d : X) → k < length xs → k ≤ n (get_or xs k d)
+rises-from n xs rise zero d within = omega arith
+rises-from n xs rise (suc k) d within = omega (arith, rises-from n xs rise k d (omega (arith, within)), rise k (suc k) d (omega arith) within)
 
-pub few-modules : (M : Plain) → IsSound M → M.next_module ≤ 4294967295 → length M.modules ≤ 4294967295
-few-modules M sound low = at M.modules sound.rise sound.below
-  where
-    at : (xs : List PModule) → AllPairs (λ (a b : PModule). a.id.0 < b.id.0) xs → All (λ (m : PModule). m.id.0 < M.next_module) xs → length xs ≤ 4294967295
-    at [] rise below = omega arith
-    at (x ∷ xs) rise below = omega (arith, low, rises-from (x ∷ xs) rise (length xs) x (omega arith), below (length xs) x (omega arith))
+pub few-below : {X : Type 0} (n : X → ℕ) (limit : ℕ) (xs : List X) → AllPairs (λ a b. n a < n b) xs → All (λ x. n x < limit) xs → length xs ≤ limit
+few-below n limit [] rise below = omega arith
+few-below n limit (x ∷ xs) rise below = omega (arith, rises-from n (x ∷ xs) rise (length xs) x (omega arith), below (length xs) x (omega arith))
+
+pub few-modules : (M : Plain) → IsSound M → length M.modules ≤ 4294967295
+few-modules M sound = omega (arith, sound.counter, few-below (λ (m : PModule). m.id.0) M.next_module M.modules sound.rise sound.below)

@@ -1,5 +1,5 @@
 -- The law of reading back, which a public call carries.
-use Rattle.std.specs.Prelude.{◌≡◌, ◌≤◌, false, Some}
+use Rattle.std.specs.Prelude.{◌≡◌, false, Some}
 use Rattle.emh_base.specs.declared.ids.ModId.{ModId}
 use Rattle.emh_base.specs.declared.plain.PModule.{PModule}
 use Rattle.emh_base.specs.declared.plain.Plain.{Plain}
@@ -25,6 +25,6 @@ pub record ReadsBack (M : Plain) : Type 0 where
       → module_of made other ≡ Some n
       → n.name ≡ m.name → flat_lines made other ≡ flat_lines M top
 
--- each sound table reads back, whose counter is in range and whose names are names
+-- each sound table reads back, whose names are names
 abbrev pub EachTableReadsBack : Type 0
-EachTableReadsBack = (M : Plain) → IsSound M → M.next_module ≤ 4294967295 → AllNamed M → ReadsBack M
+EachTableReadsBack = (M : Plain) → IsSound M → AllNamed M → ReadsBack M

@@ -20,5 +20,4 @@ pub fn table_reads_back(plain: &Plain)
 {
     each_table_reads_back();
     table_is_spelled(plain);
-    let _counter = plain.next_module;
 }

@@ -7,13 +7,14 @@ use Rattle.emh_base.specs.declared.plain.PModule.{PModule}
 use Rattle.emh_base.specs.declared.plain.Plain.{Plain}
 use Rattle.vlog_read.specs.declared.tree.TModule.{TModule}
 use Rattle.vlog_elab.specs.declared.face.Face.{Face}
-use Rattle.vlog_elab.specs.Check.{each_after}
+use Rattle.flatten_rules.specs.Check.{each_after}
+use Rattle.flatten_rules.proofs.FirstBroken.{each_after-append}
 use Rattle.vlog_elab.specs.Named.{Named, place_of, is_there, numbered}
 use Rattle.vlog_elab.specs.Faces.{has_module, added, face, faces, row_face}
 use Rattle.vlog_elab.specs.Table.{row}
 use Rattle.vlog_elab.proofs.Naming.{place-there, place-below, place-new, item-after}
 use Rattle.vlog_elab.proofs.Numbering.{numbered-append, numbered-push, length-numbered}
-use Rattle.vlog_elab.proofs.Walking.{parted, one_more, each_after-append}
+use Rattle.vlog_elab.proofs.Walking.{parted, one_more}
 use Rattle.vlog_elab.proofs.Knowing.{there-faces, added-more}
 
 pub own-is : (es : Named Face) (k n : ℕ) (own : Face) (e : List ℕ × Face) → Some own ≡ option_map (λ e. e.1) (slice_get es k) → k ≡ n → slice_get es n ≡ Some e → own ≡ e.1

@@ -14,37 +14,38 @@ use Rattle.vlog_elab.specs.declared.face.Port.{Port}
 use Rattle.vlog_elab.specs.declared.face.Face.{Face}
 use Rattle.vlog_elab.specs.declared.scope.Net.{Net}
 use Rattle.vlog_elab.specs.declared.scope.Scope.{Scope}
-use Rattle.vlog_elab.specs.Check.{Check, first, each_after}
+use Rattle.flatten_rules.specs.Check.{first_broken, each_after}
+use Rattle.vlog_elab.specs.Check.{Check}
 use Rattle.vlog_elab.specs.Named.{Named, named, firsts}
 use Rattle.vlog_elab.specs.Steps.{Step, Declares, Places, Connects, Uses, Fits, conn_steps, inst_steps, ports_of, net_at, inst_at, met}
 use Rattle.vlog_elab.specs.Connections.{port_named, ports_named, mixes, conn_checks, part_width, port_at, width_checks, step_checks}
 use Rattle.vlog_read.specs.Bare.{bare_name, bare_part, bare_conn, bare_inst}
 
 abbrev pub flags : List Check → List Bool
-flags cs = map (λ (c : Check). c.broken) cs
+flags cs = map (λ (c : Check). c.0) cs
 
-pub first-flags : (cs ds : List Check) → flags cs ≡ flags ds → first cs ≡ None → first ds ≡ None
+pub first-flags : (cs ds : List Check) → flags cs ≡ flags ds → first_broken cs ≡ None → first_broken ds ≡ None
 first-flags [] [] same none = refl
 first-flags [] (d ∷ ds) same none = absurd (omega (arith, ap length same))
 first-flags (c ∷ cs) [] same none = absurd (omega (arith, ap length same))
 first-flags (c ∷ cs) (d ∷ ds) same none =
-    let heads : c.broken ≡ d.broken = cc in
+    let heads : c.0 ≡ d.0 = cc in
     let tails : flags cs ≡ flags ds = cc in
-    at_b (λ h. first-flags cs ds tails h) c.broken (sym heads) none
+    at_b (λ h. first-flags cs ds tails h) c.0 (sym heads) none
   where
-    at_b : (first cs ≡ None → first ds ≡ None) → (b : Bool) → d.broken ≡ b → cond b (Some c.fault) (first cs) ≡ None → cond d.broken (Some d.fault) (first ds) ≡ None
-    at_b more true e h = let never : Some c.fault ≡ None = h in absurd (cc)
-    at_b more false e h = ap (λ b. cond b (Some d.fault) (first ds)) e ∙ more h
+    at_b : (first_broken cs ≡ None → first_broken ds ≡ None) → (b : Bool) → d.0 ≡ b → cond b (Some c.1) (first_broken cs) ≡ None → cond d.0 (Some d.1) (first_broken ds) ≡ None
+    at_b more true e h = let never : Some c.1 ≡ None = h in absurd (cc)
+    at_b more false e h = ap (λ b. cond b (Some d.1) (first_broken ds)) e ∙ more h
 
 -- each_after over items that are made bare
 pub flags-each : {X : Type 0} (e : X → X) (f : List X → X → List Check) → ((before : List X) (x : X) → flags (f (map e before) (e x)) ≡ flags (f before x)) → (before xs : List X)
     → flags (each_after f (map e before) (map e xs)) ≡ flags (each_after f before xs)
 flags-each e f same before [] = refl
 flags-each e f same before (x ∷ xs) =
-    map-append (λ (c : Check). c.broken) (f (map e before) (e x)) (each_after f (map e before ++ e x ∷ []) (map e xs))
+    map-append (λ (c : Check). c.0) (f (map e before) (e x)) (each_after f (map e before ++ e x ∷ []) (map e xs))
     ∙ ap (λ bs. bs ++ flags (each_after f (map e before ++ e x ∷ []) (map e xs))) (same before x)
     ∙ ap (λ bs. flags (f before x) ++ bs) (ap (λ ys. flags (each_after f ys (map e xs))) (sym (map-append e before (x ∷ []))) ∙ flags-each e f same (before ++ x ∷ []) xs)
-    ∙ sym (map-append (λ (c : Check). c.broken) (f before x) (each_after f (before ++ x ∷ []) xs))
+    ∙ sym (map-append (λ (c : Check). c.0) (f before x) (each_after f (before ++ x ∷ []) xs))
 
 abbrev pub bare_step : Step → Step
 bare_step (Declares n range) = Declares (bare_name n) range

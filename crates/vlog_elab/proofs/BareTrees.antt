@@ -31,7 +31,8 @@ use Rattle.vlog_elab.specs.declared.face.Port.{Port}
 use Rattle.vlog_elab.specs.declared.face.Face.{Face}
 use Rattle.vlog_elab.specs.declared.face.Known.{Known}
 use Rattle.vlog_elab.specs.declared.said.Said.{Said}
-use Rattle.vlog_elab.specs.Check.{Check, each_after}
+use Rattle.flatten_rules.specs.Check.{each_after}
+use Rattle.vlog_elab.specs.Check.{Check}
 use Rattle.vlog_elab.specs.Named.{Named, named, is_there, firsts, just_names, numbered}
 use Rattle.vlog_elab.specs.Text.{is_leaf, header_names, header_decls, range_of}
 use Rattle.vlog_elab.specs.Faces.{Place, Ranged, Directed, Wired, Placed, range_places, name_place, decl_places, item_places, places, direction_at, wire_at, said, port_of, ports, face, has_module, row_face, added, faces, known}
@@ -179,7 +180,7 @@ header-flags ns = flags-each bare_name (λ before n. header_checks (just_names b
 
 inside-flags : (leaf : Bool) (m : TModule) → flags (inside_checks leaf (bare_module m)) ≡ flags (inside_checks leaf m)
 inside-flags leaf m =
-    let broken : Check → Bool = λ c. c.broken in
+    let broken : Check → Bool = λ c. c.0 in
     let A = λ (ns : List At). each_after (λ before n. header_checks (just_names before) n) [] ns in
     let B = λ (ns : List At) (ps : List Place). each_after (λ before p. place_checks leaf (just_names ns) (said before) p) [] ps in
     let C = λ (s : Said) (ns : List At). map (direction_check s.directions) ns in
@@ -202,13 +203,13 @@ inside-flags leaf m =
   where
     dirs : (ds : Named Port) (ns : List At) → flags (map (direction_check ds) (map bare_name ns)) ≡ flags (map (direction_check ds) ns)
     dirs ds [] = refl
-    dirs ds (n ∷ ns) = ap (λ xs. (direction_check ds n).broken ∷ xs) (dirs ds ns)
+    dirs ds (n ∷ ns) = ap (λ xs. (direction_check ds n).0 ∷ xs) (dirs ds ns)
 
 module-flags : (l : Bool) (k : Known) (m : TModule) → flags (module_checks l k (bare_module m)) ≡ flags (module_checks l k m)
 module-flags l k m =
-    let broken : Check → Bool = λ c. c.broken in
-    ap (λ ps. (name_check (is_leaf l m) k m).broken ∷ flags (inside_checks (is_leaf l m) (bare_module m) ++ entry_checks k ps (bare_module m))) (ports-bare m)
-    ∙ ap (λ xs. (name_check (is_leaf l m) k m).broken ∷ xs)
+    let broken : Check → Bool = λ c. c.0 in
+    ap (λ ps. (name_check (is_leaf l m) k m).0 ∷ flags (inside_checks (is_leaf l m) (bare_module m) ++ entry_checks k ps (bare_module m))) (ports-bare m)
+    ∙ ap (λ xs. (name_check (is_leaf l m) k m).0 ∷ xs)
     (map-append broken (inside_checks (is_leaf l m) (bare_module m)) (entry_checks k (ports m) (bare_module m))
     ∙ ap (λ xs. xs ++ flags (entry_checks k (ports m) m)) (inside-flags (is_leaf l m) m)
     ∙ sym (map-append broken (inside_checks (is_leaf l m) m) (entry_checks k (ports m) m)))
@@ -251,10 +252,10 @@ connections-flags M l ms = ap (λ fs. flags (flat_map (λ m. cond (is_leaf l m) 
     go : (fs : Named Face) (ms : List TModule) → flags (flat_map (λ m. cond (is_leaf l m) [] (inner_checks fs m)) (map bare_module ms)) ≡ flags (flat_map (λ m. cond (is_leaf l m) [] (inner_checks fs m)) ms)
     go fs [] = refl
     go fs (m ∷ ms) =
-        map-append (λ (c : Check). c.broken) (cond (is_leaf l m) [] (inner_checks fs (bare_module m))) (flat_map (λ m. cond (is_leaf l m) [] (inner_checks fs m)) (map bare_module ms))
+        map-append (λ (c : Check). c.0) (cond (is_leaf l m) [] (inner_checks fs (bare_module m))) (flat_map (λ m. cond (is_leaf l m) [] (inner_checks fs m)) (map bare_module ms))
         ∙ ap (λ xs. xs ++ flags (flat_map (λ m. cond (is_leaf l m) [] (inner_checks fs m)) (map bare_module ms))) (pick (inner_checks fs (bare_module m)) (inner_checks fs m) (is_leaf l m) (inner-flags fs m))
         ∙ ap (λ xs. flags (cond (is_leaf l m) [] (inner_checks fs m)) ++ xs) (go fs ms)
-        ∙ sym (map-append (λ (c : Check). c.broken) (cond (is_leaf l m) [] (inner_checks fs m)) (flat_map (λ m. cond (is_leaf l m) [] (inner_checks fs m)) ms))
+        ∙ sym (map-append (λ (c : Check). c.0) (cond (is_leaf l m) [] (inner_checks fs m)) (flat_map (λ m. cond (is_leaf l m) [] (inner_checks fs m)) ms))
       where
         pick : (cs ds : List Check) (b : Bool) → flags cs ≡ flags ds → flags (cond b [] cs) ≡ flags (cond b [] ds)
         pick cs ds true e = refl
@@ -387,10 +388,10 @@ built-bare M l tree =
 checks-flags : (M : Plain) (l : Bool) (tree : Tree) → flags (checks M l (bare tree)) ≡ flags (checks M l tree)
 unfolding checks
 checks-flags M l tree =
-    map-append (λ (c : Check). c.broken) (declaration_checks M l (map bare_module tree.modules)) (connection_checks M l (map bare_module tree.modules))
+    map-append (λ (c : Check). c.0) (declaration_checks M l (map bare_module tree.modules)) (connection_checks M l (map bare_module tree.modules))
     ∙ ap (λ xs. xs ++ flags (connection_checks M l (map bare_module tree.modules))) (declarations-flags M l tree.modules)
     ∙ ap (λ xs. flags (declaration_checks M l tree.modules) ++ xs) (connections-flags M l tree.modules)
-    ∙ sym (map-append (λ (c : Check). c.broken) (declaration_checks M l tree.modules) (connection_checks M l tree.modules))
+    ∙ sym (map-append (λ (c : Check). c.0) (declaration_checks M l tree.modules) (connection_checks M l tree.modules))
 
 pub places_do_not_matter : PlacesDoNotMatter
 places_do_not_matter M l tree made = (

@@ -13,7 +13,7 @@ use Rattle.vlog_elab.specs.declared.face.Known.{Known}
 use Rattle.vlog_elab.specs.declared.fault.ElabFault.{ElabFault}
 use Rattle.vlog_elab.specs.declared.fault.ElabFault.TheVariants.{Fault, NoMemory}
 use Rattle.vlog_elab.specs.declared.fault.ElabKind.TheVariants as kind
-use Rattle.vlog_elab.specs.Check.{first}
+use Rattle.flatten_rules.specs.Check.{first_broken}
 use Rattle.vlog_elab.specs.Named.{Named, numbered}
 use Rattle.vlog_elab.specs.Faces.{added, faces, known}
 use Rattle.vlog_elab.specs.Table.{row, built}
@@ -45,12 +45,12 @@ place-within M all_leaf fs ms rows P place made h = at_o (slice_get rows place) 
     at_o (Some m) e h = let below : place < length rows = slice_get_within rows place m e in omega (arith, below, len)
 
 -- a fault of the first two rounds
-pub fault-of_checks : (M : Plain) (all_leaf : Bool) (tree : Tree) (e : ElabFault) → Found (first (checks M all_leaf tree)) e → UnlessNoMemory (HasFault M all_leaf tree) e
+pub fault-of_checks : (M : Plain) (all_leaf : Bool) (tree : Tree) (e : ElabFault) → Found (first_broken (checks M all_leaf tree)) e → UnlessNoMemory (HasFault M all_leaf tree) e
 fault-of_checks M all_leaf tree (Fault k at name) h = inl h
 fault-of_checks M all_leaf tree NoMemory h = tt
 
 -- the fault of the third round
-pub fault-of_cycle : (M : Plain) (all_leaf : Bool) (tree : Tree) (place : ℕ) (e : ElabFault) → first (checks M all_leaf tree) ≡ None
+pub fault-of_cycle : (M : Plain) (all_leaf : Bool) (tree : Tree) (place : ℕ) (e : ElabFault) → first_broken (checks M all_leaf tree) ≡ None
     → IsFirstOnCycle (built M all_leaf tree) (length M.modules) (Some place) → place < length M.modules + length (added M tree.modules)
     → ((k : ℕ) (m : TModule) → place ≡ length M.modules + k → slice_get (added M tree.modules) k ≡ Some m → Found (Some (Fault kind.Recursive m.name.at m.name.name)) e)
     → UnlessNoMemory (HasFault M all_leaf tree) e

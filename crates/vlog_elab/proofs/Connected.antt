@@ -28,7 +28,8 @@ use Rattle.vlog_elab.specs.declared.fault.ElabKind.TheVariants as kind
 use Rattle.vlog_elab.specs.declared.face.Port.{Port}
 use Rattle.vlog_elab.specs.declared.face.Face.{Face}
 use Rattle.vlog_elab.specs.declared.scope.Net.{Net}
-use Rattle.vlog_elab.specs.Check.{check_at, check, first}
+use Rattle.flatten_rules.specs.Check.{first_broken}
+use Rattle.vlog_elab.specs.Check.{check_at, check}
 use Rattle.vlog_elab.specs.Named.{Named, named, is_there, place_of}
 use Rattle.vlog_elab.specs.Steps.{ports_of}
 use Rattle.vlog_elab.specs.Connections.{port_named, ports_named, net_range, has_index, has_indices, runs_against, mixes, conn_checks, part_width, port_at, width_checks}
@@ -148,7 +149,7 @@ FitsWidth R count (conn.Bits bits) = (length bits ≡ count) × All (IsSource R)
 same_number : (a b : ℕ) → not (a == b) ≡ false → a ≡ b
 same_number a b h = let e : a == b ≡ true = not_false (a == b) h in grind (arith, nat_tests)
 
-parts_fit : (R : PModule) (ns : Named Net) (c : TConn) (ps : List Part) (port : List ℕ × Port) → HasNamed R ns → All (PartFits ns) ps → first (width_checks ns c ps (Some port)) ≡ None
+parts_fit : (R : PModule) (ns : Named Net) (c : TConn) (ps : List Part) (port : List ℕ × Port) → HasNamed R ns → All (PartFits ns) ps → first_broken (width_checks ns c ps (Some port)) ≡ None
     → FitsWidth R (width port.1.range) (conn_bits ns ps)
 parts_fit R ns c [] port has fits h = tt
 parts_fit R ns c (p ∷ ps) port has fits h =
@@ -158,7 +159,7 @@ parts_fit R ns c (p ∷ ps) port has fits h =
 conn_sound : (R : PModule) (ns : Named Net) (ports : Named Port) (inst : At) (before : List TConn) (c : TConn) (port : List ℕ × Port) → HasNamed R ns → ConnFits ns ports inst before c
     → port_at ports before c.port ≡ Some port → FitsWidth R (width port.1.range) (conn_bits ns c.parts)
 conn_sound R ns ports inst before c port has fits at =
-    parts_fit R ns c c.parts port has fits.parts (ap (λ o. first (width_checks ns c c.parts o)) (sym at) ∙ fits.width)
+    parts_fit R ns c c.parts port has fits.parts (ap (λ o. first_broken (width_checks ns c c.parts o)) (sym at) ∙ fits.width)
 
 -- an item that is found has a place, and passes
 pub find_place : {X : Type 0} (p : X → Bool) (xs : List X) (x : X) → find p xs ≡ Some x → (k : ℕ) × (slice_get xs k ≡ Some x) × (p x ≡ true)
@@ -219,7 +220,7 @@ conn_to_fits R ns ports inst (b ∷ cs) k port has fits apart at = at_b (is_some
         ap (slice_get ports) len ∙ at
     order f c e (Some n) g =
         let fit : ConnFits ns ports inst (take k all) c = fits k c e in
-        let checks : first (conn_checks ports inst (take k all) c (Some n)) ≡ None = ap (λ o. first (conn_checks ports inst (take k all) c o)) (sym g) ∙ fit.checks in
+        let checks : first_broken (conn_checks ports inst (take k all) c (Some n)) ≡ None = ap (λ o. first_broken (conn_checks ports inst (take k all) c o)) (sym g) ∙ fit.checks in
         let one : mixes (take k all) true ≡ false
         = (three_unbroken (check_at kind.Mixed c.at inst.name (mixes (take k all) true)) (check kind.UnknownPort n (not (is_there ports n.name))) (check kind.PortTwice n (is_there (ports_named (take k all)) n.name)) checks).0 in
         absurd (mixed k c n f e g one)

@@ -19,7 +19,7 @@ use Rattle.vlog_elab.specs.declared.face.Port.{Port}
 use Rattle.vlog_elab.specs.declared.face.Face.{Face}
 use Rattle.vlog_elab.specs.declared.scope.Net.{Net}
 use Rattle.vlog_elab.specs.declared.scope.Scope.{Scope}
-use Rattle.vlog_elab.specs.Check.{first, each_after}
+use Rattle.flatten_rules.specs.Check.{first_broken, each_after}
 use Rattle.vlog_elab.specs.Named.{Named, named}
 use Rattle.vlog_elab.specs.Text.{header_decls, range_of}
 use Rattle.vlog_elab.specs.Steps.{Step, Declares, Places, Connects, Uses, Fits, decl_steps, conn_steps, inst_steps, item_steps, steps, ports_of, net_at}
@@ -133,9 +133,9 @@ all_unmap P f (x ∷ xs) h = all_cons (λ x. P (f x)) x xs (all_head P (f x) (ma
 -- Connections.
 
 pub record ConnFits (ns : Named Net) (ports : Named Port) (inst : At) (before : List TConn) (c : TConn) : Type 0 where
-  pub checks : first (conn_checks ports inst before c c.port) ≡ None
+  pub checks : first_broken (conn_checks ports inst before c c.port) ≡ None
   pub parts : All (PartFits ns) c.parts
-  pub width : first (width_checks ns c c.parts (port_at ports before c.port)) ≡ None
+  pub width : first_broken (width_checks ns c c.parts (port_at ports before c.port)) ≡ None
 
 -- a part has the same bits where more nets are known
 same_width : (a b : Named Net) (p : Part) → ((q : List ℕ) (net : Net) → named a q ≡ Some net → named b q ≡ Some net) → PartFits a p → part_width a p ≡ part_width b p
@@ -177,7 +177,7 @@ conn_fits ns ports inst s before c r =
     record {
       checks = one.0.passed;
       parts = λ k d lt. still_fits t.nets ns _ two.0.end.each (parts k d lt);
-      width = ap first (sym (same_checks t.nets ns c c.parts (port_at ports before c.port) (same_widths t.nets ns c.parts two.0.end.each parts))) ∙ three.0.passed;
+      width = ap first_broken (sym (same_checks t.nets ns c c.parts (port_at ports before c.port) (same_widths t.nets ns c.parts two.0.end.each parts))) ∙ three.0.passed;
     }
 
 pub record InstFits (ns : Named Net) (fs : Named Face) (i : At × TInst) : Type 0 where
@@ -214,7 +214,7 @@ pub record ModuleFits (ns : Named Net) (fs : Named Face) (m : TModule) : Type 0 
   pub header : All (λ (d : Decl). All (λ (n : At). IsDeclared ns n.name) d.names) (header_decls m.header)
   pub items : All (ItemFits ns fs) m.items
 
-pub module_fits : (fs : Named Face) (m : TModule) → first (inner_checks fs m) ≡ None → ModuleFits (nets m) fs m
+pub module_fits : (fs : Named Face) (m : TModule) → first_broken (inner_checks fs m) ≡ None → ModuleFits (nets m) fs m
 module_fits fs m h =
     let ns : Named Net = nets m in
     let start : Scope = record { nets = []; insts = [] } in

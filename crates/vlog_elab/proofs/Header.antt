@@ -18,7 +18,7 @@ use Rattle.vlog_elab.specs.declared.face.Face.{Face}
 use Rattle.vlog_elab.specs.declared.said.Said.{Said}
 use Rattle.vlog_elab.specs.declared.scope.Net.{Net}
 use Rattle.vlog_elab.specs.declared.scope.Scope.{Scope}
-use Rattle.vlog_elab.specs.Check.{first}
+use Rattle.flatten_rules.specs.Check.{first_broken}
 use Rattle.vlog_elab.specs.Named.{Named, named, is_there, just_names}
 use Rattle.vlog_elab.specs.Text.{header_names, header_decls, range_of}
 use Rattle.vlog_elab.specs.Faces.{Place, Ranged, Placed, range_places, name_place, decl_places, item_places, places, direction_at, said}
@@ -169,7 +169,7 @@ ports_fit fs leaf m p fits =
         }
 
 -- the names of the header differ
-header_step : (before : Named (Unit {0})) (n : At) → AllPairs Differ before → first (header_checks before n) ≡ None → AllPairs Differ (before ++ (n.name, tt) ∷ [])
+header_step : (before : Named (Unit {0})) (n : At) → AllPairs Differ before → first_broken (header_checks before n) ≡ None → AllPairs Differ (before ++ (n.name, tt) ∷ [])
 header_step before n apart h = apart_push before (n.name, tt) apart (unbroken _ [] h).0
 
 pub pairs_map_both : {X Y Z : Type 0} (R : Y → Y → Type 0) (T : Z → Z → Type 0) (f : X → Y) (g : X → Z) → ((a b : X) → R (f a) (f b) → T (g a) (g b)) → (xs : List X) → AllPairs R (map f xs) → AllPairs T (map g xs)
@@ -227,7 +227,7 @@ record OnlyDeclared (s : Scope) : Type 0 where
   no_insts : s.insts ≡ []
   declared : All (λ (e : List ℕ × Net). e.1.implied ≡ false) s.nets
 
-declares_step : (s : Scope) (x : Step) → OnlyDeclared s → DeclaresOnly x → (first (step_checks s x) ≡ None) × OnlyDeclared (after_step s x)
+declares_step : (s : Scope) (x : Step) → OnlyDeclared s → DeclaresOnly x → (first_broken (step_checks s x) ≡ None) × OnlyDeclared (after_step s x)
 declares_step s (Declares n range) only h = (
   rw (not_implied (named s.nets n.name) refl, only.no_insts) refl,
   record {
@@ -252,7 +252,7 @@ item_declares : (header : Named (Unit {0})) (fs : Named Face) (item : Item) → 
 item_declares header fs (Declaration d) h = decl_declares d
 item_declares header fs (Insts master is) h = absurd (all_head (InLeaf header) (Placed master) [] h)
 
-pub leaf_passes : (fs : Named Face) (m : TModule) → PassesInside true m → first (inner_checks fs m) ≡ None
+pub leaf_passes : (fs : Named Face) (m : TModule) → PassesInside true m → first_broken (inner_checks fs m) ≡ None
 leaf_passes fs m p =
     let header : Named (Unit {0}) = just_names (header_names m.header) in
     let parts = all_front (InLeaf header) (flat_map decl_places (header_decls m.header)) (flat_map item_places m.items) (all_in_leaf m p) in

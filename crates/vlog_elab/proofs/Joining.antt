@@ -10,14 +10,14 @@ use Rattle.vlog_elab.specs.declared.fault.ElabFault.{ElabFault}
 use Rattle.vlog_elab.specs.declared.face.Port.{Port}
 use Rattle.vlog_elab.specs.declared.face.Face.{Face}
 use Rattle.vlog_elab.specs.declared.scope.Scope.{Scope}
-use Rattle.vlog_elab.specs.Check.{first}
+use Rattle.flatten_rules.specs.Check.{first_broken}
 use Rattle.vlog_elab.specs.Named.{Named, firsts}
 use Rattle.vlog_elab.specs.Steps.{Step, Connects, Uses, Fits, conn_steps, steps, net_at, inst_at, met}
 use Rattle.vlog_elab.specs.Connections.{port_named, ports_named, mixes, conn_checks, inner_checks}
 use Rattle.vlog_elab.specs.Walk.{first_fault, at_end, Found, Passed, Fails, Walks, Checks}
 use Rattle.vlog_elab.specs.Walks.{with_new, after_step, step_walk}
 use Rattle.vlog_elab.proofs.Naming.{firsts-append}
-use Rattle.vlog_elab.proofs.Walking.{or_else-None, found-along, fails-before, fails-then, walks-then, flat_map-push, walked, known-at_end}
+use Rattle.vlog_elab.proofs.Walking.{or-none, found-along, fails-before, fails-then, walks-then, flat_map-push, walked, known-at_end}
 
 few_named : (cs : List TConn) → length (ports_named cs) ≤ length cs
 few_named [] = omega arith
@@ -46,22 +46,22 @@ mixes-name (c ∷ cs) = at_port c.port (mixes-name cs) (few_named cs)
     at_port (Some m) h few = h ∙ ap not (let e : nat_eq (length (ports_named cs)) (length cs) ≡ nat_eq (suc (length (ports_named cs))) (suc (length cs)) = grind arith in e)
 
 -- a connection changes nothing that is met
-pub connects-pass : (s : Scope) (ports : Named Port) (inst : At) (before : List TConn) (c : TConn) → first (conn_checks ports inst before c c.port) ≡ None → Passed step_walk s (Connects ports inst before c ∷ []) s
+pub connects-pass : (s : Scope) (ports : Named Port) (inst : At) (before : List TConn) (c : TConn) → first_broken (conn_checks ports inst before c c.port) ≡ None → Passed step_walk s (Connects ports inst before c ∷ []) s
 connects-pass s ports inst before c none = record {
-  none = or_else-None (first (conn_checks ports inst before c c.port)) ∙ none;
+  none = or-none (first_broken (conn_checks ports inst before c c.port)) ∙ none;
   end = rw (append-nil s.insts) refl;
 }
 
-pub connects-fails : (s : Scope) (ports : Named Port) (inst : At) (before : List TConn) (c : TConn) (e : ElabFault) → Found (first (conn_checks ports inst before c c.port)) e
+pub connects-fails : (s : Scope) (ports : Named Port) (inst : At) (before : List TConn) (c : TConn) (e : ElabFault) → Found (first_broken (conn_checks ports inst before c c.port)) e
     → Fails step_walk s (conn_steps ports inst before c) e
 connects-fails s ports inst before c e f =
-    fails-before (map Uses c.parts ++ Fits ports before c ∷ []) (let q : Fails step_walk s (Connects ports inst before c ∷ []) e = record { found = found-along _ _ e (or_else-None (first (conn_checks ports inst before c c.port))) f } in q)
+    fails-before (map Uses c.parts ++ Fits ports before c ∷ []) (let q : Fails step_walk s (Connects ports inst before c ∷ []) e = record { found = found-along _ _ e (or-none (first_broken (conn_checks ports inst before c c.port))) f } in q)
 
-pub uses-fail : (s : Scope) (ports : Named Port) (inst : At) (before : List TConn) (c : TConn) (e : ElabFault) → first (conn_checks ports inst before c c.port) ≡ None
+pub uses-fail : (s : Scope) (ports : Named Port) (inst : At) (before : List TConn) (c : TConn) (e : ElabFault) → first_broken (conn_checks ports inst before c c.port) ≡ None
     → Fails step_walk s (map Uses c.parts) e → Fails step_walk s (conn_steps ports inst before c) e
 uses-fail s ports inst before c e none q = fails-then (connects-pass s ports inst before c none) (fails-before (Fits ports before c ∷ []) q)
 
-pub conn-gives : {T : Type 0} (s t u : Scope) (ports : Named Port) (inst : At) (before : List TConn) (c : TConn) (r : Result T ElabFault) → first (conn_checks ports inst before c c.port) ≡ None
+pub conn-gives : {T : Type 0} (s t u : Scope) (ports : Named Port) (inst : At) (before : List TConn) (c : TConn) (r : Result T ElabFault) → first_broken (conn_checks ports inst before c c.port) ≡ None
     → Passed step_walk s (map Uses c.parts) t → Walks step_walk t (Fits ports before c ∷ []) r u → Walks step_walk s (conn_steps ports inst before c) r u
 conn-gives s t u ports inst before c r none p q =
     walks-then (map Uses c.parts ++ Fits ports before c ∷ []) r u (connects-pass s ports inst before c none)
@@ -76,7 +76,7 @@ met-more before step =
     rw (ns, flat_map-push inst_at before step) refl
 
 -- the checks of a module, by its walk
-pub inner_checks-walk : (faces : Named Face) (m : TModule) → first (inner_checks faces m) ≡ first_fault step_walk (record { nets = []; insts = [] }) (steps faces m)
+pub inner_checks-walk : (faces : Named Face) (m : TModule) → first_broken (inner_checks faces m) ≡ first_fault step_walk (record { nets = []; insts = [] }) (steps faces m)
 inner_checks-walk faces m = walked step_walk met met-more [] (steps faces m)
 
 pub met-walk : (before : List Step) → met before ≡ at_end step_walk (record { nets = []; insts = [] }) before

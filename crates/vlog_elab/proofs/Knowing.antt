@@ -11,7 +11,8 @@ use Rattle.emh_base.specs.declared.plain.Plain.{Plain}
 use Rattle.vlog_read.specs.declared.tree.TModule.{TModule}
 use Rattle.vlog_elab.specs.declared.face.Face.{Face}
 use Rattle.vlog_elab.specs.declared.face.Known.{Known}
-use Rattle.vlog_elab.specs.Check.{first, each_after}
+use Rattle.flatten_rules.specs.Check.{first_broken, each_after}
+use Rattle.flatten_rules.proofs.FirstBroken.{each_after-append}
 use Rattle.vlog_elab.specs.Named.{Named, is_there, numbered}
 use Rattle.vlog_elab.specs.Faces.{has_module, added, faces, face, row_face, known}
 use Rattle.vlog_elab.specs.Declarations.{declaration_checks}
@@ -19,7 +20,7 @@ use Rattle.vlog_elab.specs.Walk.{first_fault, at_end}
 use Rattle.vlog_elab.specs.Walks.{module_walk, after_module}
 use Rattle.vlog_elab.proofs.Numbering.{numbered-append}
 use Rattle.vlog_elab.proofs.Naming.{or-false, one_or_not, same_name}
-use Rattle.vlog_elab.proofs.Walking.{each_after-append, walked, known-at_end}
+use Rattle.vlog_elab.proofs.Walking.{walked, known-at_end}
 
 pub any-one_or_not : {X : Type 0} (t : X → Bool) (h : Bool) (x : X) (xs : List X) → list_any t (cond h [] (x ∷ []) ++ xs) ≡ cond h (list_any t xs) (t x || list_any t xs)
 any-one_or_not t true x xs = refl
@@ -100,7 +101,7 @@ known-more M all_leaf before m =
         rw (es, n) refl
 
 -- the first round, by its walk
-pub declaration_checks-walk : (M : Plain) (all_leaf : Bool) (ms : List TModule) → first (declaration_checks M all_leaf ms) ≡ first_fault (module_walk all_leaf) (known M all_leaf []) ms
+pub declaration_checks-walk : (M : Plain) (all_leaf : Bool) (ms : List TModule) → first_broken (declaration_checks M all_leaf ms) ≡ first_fault (module_walk all_leaf) (known M all_leaf []) ms
 declaration_checks-walk M all_leaf ms = walked (module_walk all_leaf) (known M all_leaf) (known-more M all_leaf) [] ms
 
 pub known-walk : (M : Plain) (all_leaf : Bool) (ms : List TModule) → known M all_leaf ms ≡ at_end (module_walk all_leaf) (known M all_leaf []) ms

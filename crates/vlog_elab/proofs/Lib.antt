@@ -20,6 +20,8 @@ pub mod Saying
 pub mod Header
 pub mod Connected
 pub mod Row
+pub mod Counters
+pub mod Sized
 pub mod Staying
 pub mod OneAnswer
 mod Placing

@@ -18,7 +18,7 @@ use Rattle.vlog_elab.specs.declared.face.Port.{Port}
 use Rattle.vlog_elab.specs.declared.face.Face.{Face}
 use Rattle.vlog_elab.specs.declared.scope.Net.{Net}
 use Rattle.vlog_elab.specs.declared.scope.Scope.{Scope}
-use Rattle.vlog_elab.specs.Check.{first, each_after}
+use Rattle.flatten_rules.specs.Check.{first_broken, each_after}
 use Rattle.vlog_elab.specs.Named.{Named, named, is_there}
 use Rattle.vlog_elab.specs.Text.{header_decls, range_of}
 use Rattle.vlog_elab.specs.Steps.{Step, Declares, Places, Connects, Uses, Fits, decl_steps, conn_steps, inst_steps, item_steps, steps, net_at, inst_at, met}
@@ -158,7 +158,7 @@ tidy_net s e t none = at_b (is_there s.nets e.0)
     at_b false = tidy_same (record { nets = s.nets ++ e ∷ []; insts = s.insts })
         (record { insts = t.insts; across = λ k d lt. still (bytes_eq _ e.0) _ (others k d lt) (t.across k d lt) refl })
 
-tidy_step : (s : Scope) (x : Step) → Tidy s → first (step_checks s x) ≡ None → Tidy (after_step s x)
+tidy_step : (s : Scope) (x : Step) → Tidy s → first_broken (step_checks s x) ≡ None → Tidy (after_step s x)
 tidy_step s (Declares n range) t h = tidy_net s (n.name, record { range = range; implied = false }) t (unbroken _ [] (unbroken _ (_ ∷ []) h).1).0
 tidy_step s (Places face master n) t h =
     let both = or_none (is_there s.nets n.name) (is_there s.insts n.name) (unbroken _ [] (unbroken _ (_ ∷ []) h).1).0 in
@@ -173,7 +173,7 @@ tidy_step s (Uses (Bits n range)) t h = tidy_same s t
 tidy_step s (Uses (Lit size value)) t h = tidy_same s t
 tidy_step s (Fits ports before c) t h = tidy_same s t
 
-pub names_tidy : (fs : Named Face) (m : TModule) → first (inner_checks fs m) ≡ None → Tidy (record { nets = nets m; insts = map inst_name (insts m) })
+pub names_tidy : (fs : Named Face) (m : TModule) → first_broken (inner_checks fs m) ≡ None → Tidy (record { nets = nets m; insts = map inst_name (insts m) })
 names_tidy fs m h =
     let start : Tidy (record { nets = []; insts = [] }) = record { insts = pairs_none Differ; across = all_none (λ (i : List ℕ × Unit {0}). is_there {V = Net} [] i.0 ≡ false) } in
     subst Tidy (at_last fs m) (keeps step_walk Tidy tidy_step (record { nets = []; insts = [] }) (steps fs m) start (sym (inner_checks-walk fs m) ∙ h))

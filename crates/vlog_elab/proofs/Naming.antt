@@ -12,10 +12,10 @@ use Rattle.std.proofs.lemmas.List.{length-map, append-nil, take_more}
 use Rattle.std.proofs.lemmas.Iterator.Adapters.{position_from-zero}
 use Rattle.std.proofs.lemmas.Bool.Decides.{same_from_decides}
 use Rattle.std.specs.Bool.{Decides}
-use Rattle.vlog_elab.specs.Check.{each_after}
+use Rattle.flatten_rules.specs.Check.{each_after}
+use Rattle.flatten_rules.proofs.FirstBroken.{each_after-append}
 use Rattle.vlog_elab.specs.Named.{place_of, named, is_there, firsts}
 use Rattle.vlog_elab.specs.Walks.{with_new}
-use Rattle.vlog_elab.proofs.Walking.{each_after-append}
 use Rattle.vlog_elab.specs.Agree.{texts, Agrees}
 
 -- the place of the first that passes, after one more at the end

@@ -1,5 +1,6 @@
 -- A tree has no two answers, and what was answered is the one that it has.
 use Rattle.std.proofs.Common.{arith, ◌≡◌, ℕ, ◌+◌, ◌≤◌, ◌<◌, Bool, Option, Some, None, length, slice_get, refl, sym, ◌∙◌, ap, inl, inr, ⊎_elim}
+use Rattle.std.specs.List.{All}
 use Rattle.std.specs.Prelude.{Result, Ok, Err, IfOk, IfErr, MatchResult, IsSomeAnd}
 use Rattle.std.proofs.lemmas.Bool.{cases_lt}
 use Rattle.std.proofs.lemmas.Option.{slice_get_within}
@@ -13,12 +14,13 @@ use Rattle.vlog_read.specs.declared.tree.Tree.{Tree}
 use Rattle.vlog_elab.specs.declared.fault.ElabFault.{ElabFault}
 use Rattle.vlog_elab.specs.declared.fault.ElabFault.TheVariants.{Fault, NoMemory}
 use Rattle.vlog_elab.specs.declared.fault.ElabKind.TheVariants as kind
-use Rattle.vlog_elab.specs.Check.{first}
+use Rattle.flatten_rules.specs.Check.{first_broken}
 use Rattle.vlog_elab.specs.Faces.{added}
 use Rattle.vlog_elab.specs.Table.{built}
 use Rattle.vlog_elab.specs.Elaboration.{checks, Elaborates, HasFault, IsRecursive, UnlessNoMemory}
 use Rattle.vlog_elab.specs.Law.{EachHasAtMostOneAnswer}
-use Rattle.vlog_elab.proofs.Staying.{stays_sound}
+use Rattle.vlog_elab.specs.Counters.{HasCounters}
+use Rattle.vlog_elab.proofs.Staying.{built_sound}
 
 -- where a place holds a module on a cycle, none before it does, and no other place is the first
 some_there : (o : Option PModule) (P : PModule → Type 0) → IsSomeAnd o P → (m : PModule) × (o ≡ Some m) × P m
@@ -49,7 +51,7 @@ none_and_some : {T : Type 0} (o : Option T) (x : T) → o ≡ None → o ≡ Som
 none_and_some o x a b = let no : None ≡ Some x = sym a ∙ b in cc no
 
 not_both : (M : Plain) (all_leaf : Bool) (tree : Tree) (plain : Plain) (fault : ElabFault) → Elaborates M all_leaf tree plain → HasFault M all_leaf tree fault → ⊥
-not_both M all_leaf tree plain fault is (inl broken) = none_and_some (first (checks M all_leaf tree)) fault is.passed broken
+not_both M all_leaf tree plain fault is (inl broken) = none_and_some (first_broken (checks M all_leaf tree)) fault is.passed broken
 not_both M all_leaf tree plain fault is (inr recursive) =
     none_first (built M all_leaf tree) (length M.modules) (length M.modules + recursive.place) is.no_cycle recursive.first_on_cycle
 
@@ -62,9 +64,9 @@ one_recursive M all_leaf tree some other one two =
     one.fault_is ∙ ap (λ (m : TModule). Fault kind.Recursive m.name.at m.name.name) same ∙ sym two.fault_is
 
 one_fault : (M : Plain) (all_leaf : Bool) (tree : Tree) (some other : ElabFault) → HasFault M all_leaf tree some → HasFault M all_leaf tree other → some ≡ other
-one_fault M all_leaf tree some other (inl one) (inl two) = same-some (first (checks M all_leaf tree)) some other one two
-one_fault M all_leaf tree some other (inl one) (inr two) = absurd (none_and_some (first (checks M all_leaf tree)) some two.passed one)
-one_fault M all_leaf tree some other (inr one) (inl two) = absurd (none_and_some (first (checks M all_leaf tree)) other one.passed two)
+one_fault M all_leaf tree some other (inl one) (inl two) = same-some (first_broken (checks M all_leaf tree)) some other one two
+one_fault M all_leaf tree some other (inl one) (inr two) = absurd (none_and_some (first_broken (checks M all_leaf tree)) some two.passed one)
+one_fault M all_leaf tree some other (inr one) (inl two) = absurd (none_and_some (first_broken (checks M all_leaf tree)) other one.passed two)
 one_fault M all_leaf tree some other (inr one) (inr two) = one_recursive M all_leaf tree some other one two
 
 pub one_answer : EachHasAtMostOneAnswer
@@ -76,9 +78,9 @@ one_answer M all_leaf tree = record {
 
 -- what was answered is what the tree has
 
-pub is_sound : (M : Plain) (all_leaf : Bool) (tree : Tree) (result : Result Plain ElabFault) → IsSound M → IfOk result (Elaborates M all_leaf tree) → IfOk result IsSound
-is_sound M all_leaf tree (Ok plain) sound table = stays_sound M all_leaf tree plain sound table
-is_sound M all_leaf tree (Err fault) sound table = tt
+pub is_sound : (M : Plain) (all_leaf : Bool) (tree : Tree) (result : Result Plain ElabFault) → IsSound M → IfOk result (Elaborates M all_leaf tree) → IfOk result (λ made. All HasCounters made.modules) → IfOk result IsSound
+is_sound M all_leaf tree (Ok plain) sound table counters = built_sound M all_leaf tree plain sound table counters
+is_sound M all_leaf tree (Err fault) sound table counters = tt
 
 pub each_table : (M : Plain) (all_leaf : Bool) (tree : Tree) (result : Result Plain ElabFault) → IfOk result (Elaborates M all_leaf tree)
     → IfErr result (UnlessNoMemory (HasFault M all_leaf tree)) → (made : Plain) → Elaborates M all_leaf tree made → MatchResult result (λ it. it ≡ made) (UnlessNoMemory (λ _. ⊥))

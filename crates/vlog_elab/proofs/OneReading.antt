@@ -1,5 +1,5 @@
 -- Over a library a file has at most one table or one fault.
-use Rattle.std.proofs.Common.{◌≡◌, ℕ, Bool, List, length, ap, Result, Ok, Err, inl, inr}
+use Rattle.std.proofs.Common.{arith, ◌≡◌, ◌≤◌, ℕ, Bool, List, length, ap, Result, Ok, Err, inl, inr}
 use Rattle.std.specs.Prelude.{◌⊎◌, IfOk, IfErr, MatchResult}
 use Rattle.emh_base.specs.declared.plain.Plain.{Plain}
 use Rattle.vlog_lex.specs.declared.token.LexFault.TheVariants as lex
@@ -23,12 +23,15 @@ use Rattle.vlog_elab.specs.declared.fault.ElabFault.TheVariants as elab
 use Rattle.vlog_elab.specs.declared.fault.ElabFault.TheVariants.{Fault}
 use Rattle.vlog_elab.specs.declared.reads.ReadFault.{ReadFault}
 use Rattle.vlog_elab.specs.declared.reads.ReadFault.TheVariants.{Lex, Parse, Elab}
-use Rattle.vlog_elab.specs.Reads.{Reads, HasParseFault, HasElabFault, HasReadFault, UnlessNoMemory, EachHasAtMostOneReading, EachHasSomeReading}
+use Rattle.vlog_elab.specs.Reads.{Reads, HasParseFault, HasElabFault, HasReadFault, UnlessNoMemory, EachHasAtMostOneReading, EachHasSomeReading, EachReadingStaysSound}
 use Rattle.vlog_elab.specs.Elaboration.{Elaborates}
 use Rattle.vlog_elab.specs.Elaboration as elaboration
 use Rattle.vlog_elab.specs.declared.fault.ElabFault.{ElabFault}
 use Rattle.vlog_elab.proofs.OneAnswer.{one_answer}
 use Rattle.vlog_elab.proofs.SomeAnswer.{some_answer}
+use Rattle.vlog_elab.proofs.Staying.{stays_sound}
+use Rattle.vlog_elab.proofs.Sized.{source-few}
+use Rattle.vlog_lex.proofs.Few.{lexes_few}
 
 -- what has a tree has no fault of its grammar
 no-parse-fault : (bytes : List ℕ) (tree : Tree) (fault : _) → HasTree bytes tree → HasParseFault bytes fault → ⊥
@@ -128,3 +131,9 @@ some_reading library all_leaf bytes sound = by_tokens (lex_answer bytes).some
         → ((plain : Plain) × Reads library all_leaf bytes plain) ⊎ ((fault : ReadFault) × HasReadFault library all_leaf bytes fault)
     by_tokens (inl read) = by_tree read.0 read.1 (law (length bytes) read.0).some
     by_tokens (inr told) = inr (Lex told.0, told.1)
+
+-- a file's table has no more nets and instances in a module than the file has bytes
+pub reading_sound : EachReadingStaysSound
+reading_sound library plain all_leaf bytes sound few reads =
+    let tokens : length reads.has_tree.tokens ≤ 4294967295 = omega (arith, few, lexes_few bytes reads.has_tree.tokens reads.has_tree.lexes) in
+    stays_sound library all_leaf reads.tree plain sound (source-few 4294967295 reads.has_tree.spells tokens) reads.elaborates

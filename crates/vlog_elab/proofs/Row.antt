@@ -22,12 +22,13 @@ use Rattle.vlog_read.specs.declared.tree.TModule.{TModule}
 use Rattle.vlog_elab.specs.declared.face.Port.{Port}
 use Rattle.vlog_elab.specs.declared.face.Face.{Face}
 use Rattle.vlog_elab.specs.declared.scope.Net.{Net}
-use Rattle.vlog_elab.specs.Check.{first}
+use Rattle.flatten_rules.specs.Check.{first_broken}
 use Rattle.vlog_elab.specs.Named.{Named, named, is_there, place_of, just_names, numbered}
 use Rattle.vlog_elab.specs.Text.{is_leaf, header_names}
 use Rattle.vlog_elab.specs.Faces.{places, said, port_of as port_said, ports, face}
 use Rattle.vlog_elab.specs.Connections.{inner_checks}
 use Rattle.vlog_elab.specs.Table.{nets, insts, net_id, net_row, port_row, inst_row, row}
+use Rattle.vlog_elab.specs.Counters.{HasCounters}
 use Rattle.vlog_elab.proofs.Each.{all_map_of, all_numbered_of, pairs_none, pairs_cons, pairs_head, pairs_tail, pairs_append, numbered_rise, numbered_below}
 use Rattle.vlog_elab.proofs.Numbering.{length-numbered}
 use Rattle.vlog_elab.proofs.Rising.{insts_rise}
@@ -71,7 +72,7 @@ Other a b = a ≢ b
 all_swap : {X Y : Type 0} (R : X → Y → Type 0) (xs : List X) (ys : List Y) → All (λ y. All (λ x. R x y) xs) ys → All (λ x. All (R x) ys) xs
 all_swap R xs ys h = λ k d lt i e within. h i e within k d lt
 
-names_differ : (fs : Named Face) (all_leaf : Bool) (id : ℕ) (m : TModule) → first (inner_checks fs m) ≡ None
+names_differ : (fs : Named Face) (all_leaf : Bool) (id : ℕ) (m : TModule) → first_broken (inner_checks fs m) ≡ None
     → IsDistinct bytes_eq (map (λ (net : PNet). net.name) (row fs all_leaf id m).nets ++ map (λ (inst : PInst). inst.name) (row fs all_leaf id m).insts)
 names_differ fs all_leaf id m inner =
     let ns : Named Net = nets m in
@@ -117,7 +118,7 @@ same_net fs all_leaf id m a b one two same =
 
 -- A module's face.
 
-pub face_of : (fs : Named Face) (all_leaf : Bool) (id : ℕ) (m : TModule) → PassesInside (is_leaf all_leaf m) m → first (inner_checks fs m) ≡ None → IsFaceOf (face all_leaf id m).1 (row fs all_leaf id m)
+pub face_of : (fs : Named Face) (all_leaf : Bool) (id : ℕ) (m : TModule) → PassesInside (is_leaf all_leaf m) m → first_broken (inner_checks fs m) ≡ None → IsFaceOf (face all_leaf id m).1 (row fs all_leaf id m)
 face_of fs all_leaf id m p inner = record {
   many = simp length-map;
   apart = ports_apart (is_leaf all_leaf m) m p;
@@ -184,9 +185,9 @@ leaf_cell fs all_leaf id m p = record {
 
 -- The row.
 
-pub row_sound : (M : Plain) (fs : Named Face) (all_leaf : Bool) (id : ℕ) (m : TModule) → PassesInside (is_leaf all_leaf m) m → first (inner_checks fs m) ≡ None
-    → ((q : List ℕ) (face : Face) → named fs q ≡ Some face → HasModule M face) → IsSoundModule M (row fs all_leaf id m)
-row_sound M fs all_leaf id m p inner known =
+pub row_sound : (M : Plain) (fs : Named Face) (all_leaf : Bool) (id : ℕ) (m : TModule) → PassesInside (is_leaf all_leaf m) m → first_broken (inner_checks fs m) ≡ None
+    → ((q : List ℕ) (face : Face) → named fs q ≡ Some face → HasModule M face) → HasCounters (row fs all_leaf id m) → IsSoundModule M (row fs all_leaf id m)
+row_sound M fs all_leaf id m p inner known counters =
     let ns : Named Net = nets m in
     let R : PModule = row fs all_leaf id m in
     let fits : ModuleFits ns fs m = module_fits fs m inner in
@@ -196,12 +197,14 @@ row_sound M fs all_leaf id m p inner known =
       names = names_differ fs all_leaf id m inner;
       nets_rise = numbered_rise (λ (net : PNet). net.id.0) net_row (λ n x. refl) 0 ns;
       nets_below = subst (λ (n : ℕ). All (λ (net : PNet). net.id.0 < n) R.nets) (zero (length ns)) (numbered_below (λ (net : PNet). net.id.0) net_row (λ n x. refl) 0 ns);
+      net_counter = counters.0;
       ranges = all_numbered_of (λ (net : PNet). IsAllowed net.range) HasAllowed net_row (λ n x h. h) 0 ns (nets_allowed (is_leaf all_leaf m) m p);
       ports_there = all_map_of (λ (port : PPort). IsSome (net_of R port.net)) (HasNet ns) (port_row ns) (λ x h. ap is_some (net_by_name fs all_leaf id m x.0 h.0 h.1).3) (ports m) own;
       ports_differ = pairs_map (λ (a b : PPort). a.net ≢ b.net) (port_row ns) (ports m)
           (λ i j d lt within. λ same. ports_apart (is_leaf all_leaf m) m p i j d lt within (same_net fs all_leaf id m (get_or (ports m) i d) (get_or (ports m) j d) (own i d (omega (arith, lt, within))) (own j d within) same));
       insts_rise = insts_rise fs all_leaf id m;
       insts_below = subst (λ (n : ℕ). All (λ (inst : PInst). inst.id.0 < n) R.insts) (zero (length (insts m))) (numbered_below (λ (inst : PInst). inst.id.0) (inst_row fs ns) (λ n x. refl) 0 (insts m));
+      inst_counter = counters.1;
       masters = all_numbered_of (HasMaster M R) (InstFits ns fs) (inst_row fs ns) (λ n i f. inst_sound M R ns fs n i (has_named fs all_leaf id m) known f) 0 (insts m) (insts_fit ns fs m fits);
       cell = λ leaf. leaf_cell fs all_leaf id m (subst (λ (b : Bool). PassesInside b m) leaf p);
     }

@@ -23,7 +23,8 @@ use Rattle.vlog_elab.specs.declared.face.Port.{Port}
 use Rattle.vlog_elab.specs.declared.said.Said.{Said}
 use Rattle.vlog_elab.specs.declared.scope.Net.{Net}
 use Rattle.vlog_elab.specs.declared.fault.ElabKind.TheVariants as kind
-use Rattle.vlog_elab.specs.Check.{check, first}
+use Rattle.flatten_rules.specs.Check.{first_broken}
+use Rattle.vlog_elab.specs.Check.{check}
 use Rattle.vlog_elab.specs.Named.{Named, named, is_there, just_names}
 use Rattle.vlog_elab.specs.Text.{header_names, header_decls}
 use Rattle.vlog_elab.specs.Faces.{Place, Ranged, Directed, Wired, Placed, decl_places, item_places, places, direction_at, wire_at, said, same_range}
@@ -44,7 +45,7 @@ pub record PassesInside (leaf : Bool) (m : TModule) : Type 0 where
   pub at_places : first_fault (place_walk leaf (just_names (header_names m.header))) (said []) (places m) ≡ None
   pub in_ports : first_fault (port_walk (said (places m)).directions) [] (header_names m.header) ≡ None
 
-pub passes_inside : (leaf : Bool) (m : TModule) → first (inside_checks leaf m) ≡ None → PassesInside leaf m
+pub passes_inside : (leaf : Bool) (m : TModule) → first_broken (inside_checks leaf m) ≡ None → PassesInside leaf m
 passes_inside leaf m h =
     let all = sym (inside-walks leaf m) ∙ h in
     let rest = none_right (first_fault header_walk [] (header_names m.header)) _ all in
@@ -150,19 +151,19 @@ one_more_found {V} P es n q v w h before new = at_o (named es q) refl (bytes_eq 
     at_o None e false f h = absurd (cc h)
 
 -- what the checks of a direction and of a wire declaration tell
-pub directed : (leaf : Bool) (header : Named (Unit {0})) (s : Said) (n : At) (port : Port) → first (place_checks leaf header s (Directed n port)) ≡ None
+pub directed : (leaf : Bool) (header : Named (Unit {0})) (s : Said) (n : At) (port : Port) → first_broken (place_checks leaf header s (Directed n port)) ≡ None
     → (not (is_there header n.name) ≡ false) × (is_there s.directions n.name ≡ false) × (differs_from_wire port.range (named s.wires n.name) ≡ false)
 directed leaf header s n port h =
     three_unbroken (check kind.UnknownPort n (not (is_there header n.name))) (check kind.NameTaken n (is_there s.directions n.name))
     (check kind.RangeDiffers n (differs_from_wire port.range (named s.wires n.name))) h
 
-pub wired : (leaf : Bool) (header : Named (Unit {0})) (s : Said) (n : At) (range : Option Range) → first (place_checks leaf header s (Wired n range)) ≡ None
+pub wired : (leaf : Bool) (header : Named (Unit {0})) (s : Said) (n : At) (range : Option Range) → first_broken (place_checks leaf header s (Wired n range)) ≡ None
     → (is_there s.wires n.name ≡ false) × (differs_from_direction range (named s.directions n.name) ≡ false) × (leaf && not (is_there header n.name) ≡ false)
 wired leaf header s n range h =
     three_unbroken (check kind.NameTaken n (is_there s.wires n.name)) (check kind.RangeDiffers n (differs_from_direction range (named s.directions n.name)))
     (check kind.LeafBody n (leaf && not (is_there header n.name))) h
 
-pub agrees_step : (leaf : Bool) (header : Named (Unit {0})) (s : Said) (p : Place) → Agrees s → first (place_checks leaf header s p) ≡ None → Agrees (after_place s p)
+pub agrees_step : (leaf : Bool) (header : Named (Unit {0})) (s : Said) (p : Place) → Agrees s → first_broken (place_checks leaf header s p) ≡ None → Agrees (after_place s p)
 agrees_step leaf header s (Ranged x n) a h = record { same = λ q range port w d. a.same q range port (sym (ap (λ es. named es q) (append-nil s.wires)) ∙ w) (sym (ap (λ es. named es q) (append-nil s.directions)) ∙ d) }
 agrees_step leaf header s (Placed master) a h = record { same = λ q range port w d. a.same q range port (sym (ap (λ es. named es q) (append-nil s.wires)) ∙ w) (sym (ap (λ es. named es q) (append-nil s.directions)) ∙ d) }
 agrees_step leaf header s (Directed n new) a h = record {
@@ -227,7 +228,7 @@ InLeaf header (Directed n port) = is_there header n.name ≡ true
 InLeaf header (Wired n range) = is_there header n.name ≡ true
 InLeaf header (Placed master) = ⊥
 
-pub in_leaf : (header : Named (Unit {0})) (s : Said) (p : Place) → first (place_checks true header s p) ≡ None → InLeaf header p
+pub in_leaf : (header : Named (Unit {0})) (s : Said) (p : Place) → first_broken (place_checks true header s p) ≡ None → InLeaf header p
 in_leaf header s (Ranged x n) h = tt
 in_leaf header s (Directed n port) h = not_false (is_there header n.name) (directed true header s n port h).0
 in_leaf header s (Wired n range) h = not_false (is_there header n.name) (wired true header s n range h).2

@@ -13,7 +13,7 @@ use Rattle.vlog_read.specs.declared.tree.Tree.{Tree}
 use Rattle.vlog_elab.specs.declared.fault.ElabFault.{ElabFault}
 use Rattle.vlog_elab.specs.declared.fault.ElabFault.TheVariants.{Fault}
 use Rattle.vlog_elab.specs.declared.fault.ElabKind.TheVariants as kind
-use Rattle.vlog_elab.specs.Check.{first}
+use Rattle.flatten_rules.specs.Check.{first_broken}
 use Rattle.vlog_elab.specs.Named.{numbered}
 use Rattle.vlog_elab.specs.Faces.{added, faces}
 use Rattle.vlog_elab.specs.Table.{row, built}
@@ -41,7 +41,7 @@ module _ (M : Plain) (l : Bool) (tree : Tree) (sound : IsSound M) where
       (all_insts_rise M (faces M l tree.modules) l (added M tree.modules) sound)
 
   -- the third round
-  by_cycle : first (checks M l tree) ≡ None → (found : Option ℕ) → IsFirstOnCycle (built M l tree) (length M.modules) found
+  by_cycle : first_broken (checks M l tree) ≡ None → (found : Option ℕ) → IsFirstOnCycle (built M l tree) (length M.modules) found
       → ((plain : Plain) × Elaborates M l tree plain) ⊎ ((fault : ElabFault) × HasFault M l tree fault)
   by_cycle passed None none = inl (built M l tree, record { passed = passed; no_cycle = none; table = refl })
   by_cycle passed (Some at) found =
@@ -64,9 +64,9 @@ module _ (M : Plain) (l : Bool) (tree : Tree) (sound : IsSound M) where
       )
 
   answer : ((plain : Plain) × Elaborates M l tree plain) ⊎ ((fault : ElabFault) × HasFault M l tree fault)
-  answer = at (first (checks M l tree)) refl
+  answer = at (first_broken (checks M l tree)) refl
     where
-      at : (o : Option ElabFault) → first (checks M l tree) ≡ o → ((plain : Plain) × Elaborates M l tree plain) ⊎ ((fault : ElabFault) × HasFault M l tree fault)
+      at : (o : Option ElabFault) → first_broken (checks M l tree) ≡ o → ((plain : Plain) × Elaborates M l tree plain) ⊎ ((fault : ElabFault) × HasFault M l tree fault)
       at (Some fault) e = inr (fault, inl e)
       at None e = let found = some-first (built M l tree) rise insts (length M.modules) in by_cycle e found.0 found.1
 

@@ -21,7 +21,7 @@ use Rattle.emh_base.specs.declared.plain.Plain.{Plain}
 use Rattle.flatten_rules.specs.Lookup.{module_of, net_of, width, width_of}
 use Rattle.flatten_rules.specs.Unfolding.{module_up}
 use Rattle.flatten_rules.specs.Cycle.{OnCycle, IsFirstOnCycle}
-use Rattle.flatten_rules.specs.Sound.{FitPorts, HasMaster, IsSoundModule, IsSound}
+use Rattle.flatten_rules.specs.Sound.{FitPorts, HasMaster, IsSoundModule, IsSound, IsCounter}
 use Rattle.flatten_rules.proofs.Sound.{All-find, sound-module, master-there}
 use Rattle.flatten_rules.proofs.Walks.{find-own, id-of_net, Step, last_step, up-own, some-there, same-some}
 use Rattle.flatten_rules.proofs.Cycling.{place-at}
@@ -31,7 +31,7 @@ use Rattle.vlog_read.specs.declared.tree.Tree.{Tree}
 use Rattle.vlog_elab.specs.declared.face.Port.{Port}
 use Rattle.vlog_elab.specs.declared.face.Face.{Face}
 use Rattle.vlog_elab.specs.declared.face.Known.{Known}
-use Rattle.vlog_elab.specs.Check.{first, each_after}
+use Rattle.flatten_rules.specs.Check.{first_broken, each_after}
 use Rattle.vlog_elab.specs.Named.{Named, named, is_there, numbered}
 use Rattle.vlog_elab.specs.Text.{is_leaf}
 use Rattle.vlog_elab.specs.Faces.{has_module, added, ports, face, faces, known, row_port_on, row_port, row_face}
@@ -42,6 +42,9 @@ use Rattle.vlog_elab.specs.Elaboration.{checks}
 use Rattle.vlog_elab.specs.Walk.{at_end}
 use Rattle.vlog_elab.specs.Walks.{module_walk, with_module, after_module}
 use Rattle.vlog_elab.specs.Law.{StaysSound}
+use Rattle.vlog_elab.specs.Elaboration.{Elaborates}
+use Rattle.vlog_elab.specs.Counters.{HasCounters, IsCountable}
+use Rattle.vlog_elab.proofs.Counters.{table-counters, modules-counted}
 use Rattle.vlog_elab.proofs.Each.{all_none, all_cons, all_head, all_tail, all_weaker, all_map_of, all_numbered_of, pairs_none, pairs_cons, pairs_head, pairs_tail, numbered_below}
 use Rattle.vlog_elab.proofs.Rising.{modules_rise}
 use Rattle.vlog_elab.proofs.Rounds.{checks-rounds}
@@ -58,31 +61,31 @@ use Rattle.vlog_elab.proofs.Row.{Other, pairs_map, face_of, row_sound}
 -- A module that passes.
 pub record Passes (fs : Named Face) (all_leaf : Bool) (m : TModule) : Type 0 where
   pub inside : PassesInside (is_leaf all_leaf m) m
-  pub inner : first (inner_checks fs m) ≡ None
+  pub inner : first_broken (inner_checks fs m) ≡ None
 
-passes : (fs : Named Face) (all_leaf : Bool) (m : TModule) → first (inside_checks (is_leaf all_leaf m) m) ≡ None → first (if is_leaf all_leaf m then [] else inner_checks fs m) ≡ None → Passes fs all_leaf m
+passes : (fs : Named Face) (all_leaf : Bool) (m : TModule) → first_broken (inside_checks (is_leaf all_leaf m) m) ≡ None → first_broken (if is_leaf all_leaf m then [] else inner_checks fs m) ≡ None → Passes fs all_leaf m
 passes fs all_leaf m one two =
     let p : PassesInside (is_leaf all_leaf m) m = passes_inside (is_leaf all_leaf m) m one in
     record { inside = p; inner = at_b (is_leaf all_leaf m) p two }
   where
-    at_b : (b : Bool) → PassesInside b m → first (cond b [] (inner_checks fs m)) ≡ None → first (inner_checks fs m) ≡ None
+    at_b : (b : Bool) → PassesInside b m → first_broken (cond b [] (inner_checks fs m)) ≡ None → first_broken (inner_checks fs m) ≡ None
     at_b true p h = leaf_passes fs m p
     at_b false p h = h
 
-all_pass : (M : Plain) (all_leaf : Bool) (tree : Tree) → first (checks M all_leaf tree) ≡ None → All (Passes (faces M all_leaf tree.modules) all_leaf) tree.modules
+all_pass : (M : Plain) (all_leaf : Bool) (tree : Tree) → first_broken (checks M all_leaf tree) ≡ None → All (Passes (faces M all_leaf tree.modules) all_leaf) tree.modules
 all_pass M all_leaf tree h =
     let fs : Named Face = faces M all_leaf tree.modules in
     let both = sym (checks-rounds M all_leaf tree) ∙ h in
-    let one : All (λ (m : TModule). first (inside_checks (is_leaf all_leaf m) m) ≡ None) tree.modules
-    = each_passes (λ before m. module_checks all_leaf (known M all_leaf before) m) (λ (m : TModule). first (inside_checks (is_leaf all_leaf m) m) ≡ None)
+    let one : All (λ (m : TModule). first_broken (inside_checks (is_leaf all_leaf m) m) ≡ None) tree.modules
+    = each_passes (λ before m. module_checks all_leaf (known M all_leaf before) m) (λ (m : TModule). first_broken (inside_checks (is_leaf all_leaf m) m) ≡ None)
     (λ before m g.
     let k : Known = known M all_leaf before in
     let parts = sym (module-parts all_leaf k m) ∙ g in
-    none_left (first (inside_checks (is_leaf all_leaf m) m)) (first (entry_checks k (ports m) m)) (none_right (first (name_check (is_leaf all_leaf m) k m ∷ [])) _ parts))
-    [] tree.modules (none_left (first (declaration_checks M all_leaf tree.modules)) (first (connection_checks M all_leaf tree.modules)) both) in
-    let two : All (λ (m : TModule). first (if is_leaf all_leaf m then [] else inner_checks fs m) ≡ None) tree.modules
+    none_left (first_broken (inside_checks (is_leaf all_leaf m) m)) (first_broken (entry_checks k (ports m) m)) (none_right (first_broken (name_check (is_leaf all_leaf m) k m ∷ [])) _ parts))
+    [] tree.modules (none_left (first_broken (declaration_checks M all_leaf tree.modules)) (first_broken (connection_checks M all_leaf tree.modules)) both) in
+    let two : All (λ (m : TModule). first_broken (if is_leaf all_leaf m then [] else inner_checks fs m) ≡ None) tree.modules
     = flat_passes (λ (m : TModule). if is_leaf all_leaf m then [] else inner_checks fs m) tree.modules
-    (none_right (first (declaration_checks M all_leaf tree.modules)) (first (connection_checks M all_leaf tree.modules)) both) in
+    (none_right (first_broken (declaration_checks M all_leaf tree.modules)) (first_broken (connection_checks M all_leaf tree.modules)) both) in
     λ k d lt. passes fs all_leaf (get_or tree.modules k d) (one k d lt) (two k d lt)
 
 -- the modules that are added are the text's
@@ -165,11 +168,13 @@ kept_sound M B rows m made s = record {
   names = s.names;
   nets_rise = s.nets_rise;
   nets_below = s.nets_below;
+  net_counter = s.net_counter;
   ranges = s.ranges;
   ports_there = s.ports_there;
   ports_differ = s.ports_differ;
   insts_rise = s.insts_rise;
   insts_below = s.insts_below;
+  inst_counter = s.inst_counter;
   masters = all_weaker (HasMaster M m) (HasMaster B m) m.insts (λ inst h. kept_master M B rows m inst made h) s.masters;
   cell = s.cell;
 }
@@ -292,8 +297,9 @@ no_cycle M B rows sound made none m cycle =
 -- The table.
 
 table_sound : (M B : Plain) (all_leaf : Bool) (ms : List TModule) → IsSound M → B.modules ≡ M.modules ++ numbered (row (faces M all_leaf ms) all_leaf) M.next_module (added M ms)
-    → B.next_module ≡ M.next_module + length (added M ms) → All (Passes (faces M all_leaf ms) all_leaf) ms → IsFirstOnCycle B (length M.modules) None → IsSound B
-table_sound M B all_leaf ms sound made next passed none =
+    → B.next_module ≡ M.next_module + length (added M ms) → All (Passes (faces M all_leaf ms) all_leaf) ms → IsFirstOnCycle B (length M.modules) None
+    → All HasCounters B.modules → IsCounter B.next_module → IsSound B
+table_sound M B all_leaf ms sound made next passed none counters counter =
     let fs : Named Face = faces M all_leaf ms in
     let new : List TModule = added M ms in
     let rows : List PModule = numbered (row fs all_leaf) M.next_module new in
@@ -307,11 +313,13 @@ table_sound M B all_leaf ms sound made next passed none =
     (numbered_below (λ (m : PModule). m.id.0) (row fs all_leaf) (λ n m. refl) M.next_module new) in
     let modules : All (IsSoundModule B) (M.modules ++ rows)
     = All-append (IsSoundModule B) M.modules rows (all_weaker (IsSoundModule M) (IsSoundModule B) M.modules (λ m s. kept_sound M B rows m made s) sound.modules)
-    (all_numbered_of (IsSoundModule B) (Passes fs all_leaf) (row fs all_leaf) (λ n m p. row_sound B fs all_leaf n m p.inside p.inner masters) M.next_module new new_passed) in
+    (all_numbered_with HasCounters (IsSoundModule B) (Passes fs all_leaf) (row fs all_leaf) (row fs all_leaf) (λ n m p few. row_sound B fs all_leaf n m p.inside p.inner masters few) M.next_module new new_passed
+    (all_front HasCounters M.modules rows (subst (λ (ms : List PModule). All HasCounters ms) made counters)).1) in
     record {
       names = subst (λ (ms : List PModule). IsDistinct bytes_eq (map (λ (m : PModule). m.name) ms)) (sym made) (modules_apart M all_leaf ms fs sound);
       rise = subst (λ (ms : List PModule). AllPairs (λ (a b : PModule). a.id.0 < b.id.0) ms) (sym made) (modules_rise M fs all_leaf new sound);
       below = subst (λ (n : ℕ). All (λ (m : PModule). m.id.0 < n) B.modules) (sym next) (subst (λ (ms : List PModule). All (λ (m : PModule). m.id.0 < end) ms) (sym made) below);
+      counter = counter;
       modules = subst (λ (ms : List PModule). All (IsSoundModule B) ms) (sym made) modules;
       no_cycle = no_cycle M B rows sound made none;
     }
@@ -324,7 +332,22 @@ built_next : (M : Plain) (all_leaf : Bool) (tree : Tree) → (built M all_leaf t
 unfolding built
 built_next M all_leaf tree = refl
 
-pub stays_sound : StaysSound
-stays_sound M all_leaf tree plain sound is =
+-- what is built of a sound table is sound where its modules have counters
+pub built_sound : (M : Plain) (all_leaf : Bool) (tree : Tree) (plain : Plain) → IsSound M → Elaborates M all_leaf tree plain → All HasCounters plain.modules → IsSound plain
+built_sound M all_leaf tree plain sound is counters =
+    let B : Plain = built M all_leaf tree in
     subst IsSound (sym is.table)
-    (table_sound M (built M all_leaf tree) all_leaf tree.modules sound (built_modules M all_leaf tree) (built_next M all_leaf tree) (all_pass M all_leaf tree is.passed) is.no_cycle)
+    (table_sound M B all_leaf tree.modules sound (built_modules M all_leaf tree) (built_next M all_leaf tree) (all_pass M all_leaf tree is.passed) is.no_cycle
+    (subst (λ (N : Plain). All HasCounters N.modules) is.table counters)
+    (subst IsCounter (sym (built_next M all_leaf tree)) (modules-counted M all_leaf tree is.passed sound.counter)))
+
+pub stays_sound : StaysSound
+stays_sound M all_leaf tree plain sound few is =
+    let fs : Named Face = faces M all_leaf tree.modules in
+    let new : List TModule = added M tree.modules in
+    let rows : List PModule = numbered (row fs all_leaf) M.next_module new in
+    let counted : All HasCounters rows
+    = all_numbered_of HasCounters IsCountable (row fs all_leaf) (λ n m few. few) M.next_module new (all_added IsCountable M [] tree.modules few) in
+    let counters : All HasCounters (built M all_leaf tree).modules
+    = subst (λ (ms : List PModule). All HasCounters ms) (sym (built_modules M all_leaf tree)) (All-append HasCounters M.modules rows (table-counters M sound) counted) in
+    built_sound M all_leaf tree plain sound is (subst (λ (N : Plain). All HasCounters N.modules) (sym is.table) counters)

@@ -3,39 +3,38 @@ use Rattle.std.proofs.Common.{◌≡◌, ℕ, ◌+◌, ◌<◌, [], ◌∷◌, �
 use Rattle.std.specs.List.{flat_map}
 use Rattle.std.proofs.lemmas.Grind.{flat_map-append}
 use Rattle.std.proofs.lemmas.List.{append-nil, take_more, drop_more, take-append-drop, map-append}
+use Rattle.std.specs.Option.{option_or}
 use Rattle.vlog_elab.specs.declared.fault.ElabFault.{ElabFault}
 use Rattle.vlog_elab.specs.declared.fault.ElabFault.TheVariants.{Fault, NoMemory}
-use Rattle.vlog_elab.specs.Check.{Check, first, each_after}
-use Rattle.vlog_elab.specs.Walk.{Walk, or_else, first_fault, at_end, Found, Passed, Fails, Walks}
+use Rattle.flatten_rules.specs.Check.{first_broken, each_after}
+use Rattle.flatten_rules.proofs.FirstBroken.{first_broken-append, each_after-append}
+use Rattle.vlog_elab.specs.Check.{Check}
+use Rattle.vlog_elab.specs.Walk.{Walk, first_fault, at_end, Found, Passed, Fails, Walks}
 
-pub or_else-None : (o : Option ElabFault) → or_else o None ≡ o
-or_else-None None = refl
-or_else-None (Some f) = refl
+pub or-none : (o : Option ElabFault) → option_or o None ≡ o
+or-none None = refl
+or-none (Some f) = refl
 
-pub or_else_assoc : (a b c : Option ElabFault) → or_else (or_else a b) c ≡ or_else a (or_else b c)
-or_else_assoc None b c = refl
-or_else_assoc (Some f) b c = refl
+pub or-assoc : (a b c : Option ElabFault) → option_or (option_or a b) c ≡ option_or a (option_or b c)
+or-assoc None b c = refl
+or-assoc (Some f) b c = refl
 
-pub first-append : (cs ds : List Check) → first (cs ++ ds) ≡ or_else (first cs) (first ds)
-first-append [] ds = refl
-first-append (c ∷ cs) ds = elim c.broken as (λ b. cond b (Some c.fault) (first (cs ++ ds)) ≡ or_else (cond b (Some c.fault) (first cs)) (first ds)) [ true ↦ refl | false ↦ first-append cs ds ]
-
-pub first_fault-append : {S X : Type 0} (w : Walk S X) (s : S) (xs ys : List X) → first_fault w s (xs ++ ys) ≡ or_else (first_fault w s xs) (first_fault w (at_end w s xs) ys)
+pub first_fault-append : {S X : Type 0} (w : Walk S X) (s : S) (xs ys : List X) → first_fault w s (xs ++ ys) ≡ option_or (first_fault w s xs) (first_fault w (at_end w s xs) ys)
 first_fault-append w s [] ys = refl
 first_fault-append w s (x ∷ xs) ys =
-    ap (or_else (first (w.checks s x))) (first_fault-append w (w.after s x) xs ys)
-    ∙ sym (or_else_assoc (first (w.checks s x)) (first_fault w (w.after s x) xs) (first_fault w (at_end w (w.after s x) xs) ys))
+    ap (option_or (first_broken (w.checks s x))) (first_fault-append w (w.after s x) xs ys)
+    ∙ sym (or-assoc (first_broken (w.checks s x)) (first_fault w (w.after s x) xs) (first_fault w (at_end w (w.after s x) xs) ys))
 
 pub at_end-append : {S X : Type 0} (w : Walk S X) (s : S) (xs ys : List X) → at_end w s (xs ++ ys) ≡ at_end w (at_end w s xs) ys
 at_end-append w s [] ys = refl
 at_end-append w s (x ∷ xs) ys = at_end-append w (w.after s x) xs ys
 
 -- a fault that is found stays the first, whatever follows
-pub found-or : (o p : Option ElabFault) (f : ElabFault) → Found o f → Found (or_else o p) f
+pub found-or : (o p : Option ElabFault) (f : ElabFault) → Found o f → Found (option_or o p) f
 found-or o p NoMemory h = tt
 found-or o p (Fault kind at name) h = rw h refl
 
-pub found-after : (o p : Option ElabFault) (f : ElabFault) → o ≡ None → Found p f → Found (or_else o p) f
+pub found-after : (o p : Option ElabFault) (f : ElabFault) → o ≡ None → Found p f → Found (option_or o p) f
 found-after o p f none h = rw none h
 
 pub found-along : (o p : Option ElabFault) (f : ElabFault) → o ≡ p → Found p f → Found o f
@@ -62,7 +61,7 @@ fails-then {w = w} {s = s} {t = t} {xs = xs} {ys = ys} {f = f} p q = record {
 pub fails-before : {S X : Type 0} {w : Walk S X} {s : S} {xs : List X} {f : ElabFault} (ys : List X) → Fails w s xs f → Fails w s (xs ++ ys) f
 fails-before {w = w} {s = s} {xs = xs} {f = f} ys q = record {
   found =
-      found-along (first_fault w s (xs ++ ys)) (or_else (first_fault w s xs) (first_fault w (at_end w s xs) ys)) f
+      found-along (first_fault w s (xs ++ ys)) (option_or (first_fault w s xs) (first_fault w (at_end w s xs) ys)) f
       (first_fault-append w s xs ys) (found-or (first_fault w s xs) (first_fault w (at_end w s xs) ys) f q.found);
 }
 
@@ -75,12 +74,6 @@ parted ys i y within here = sym (take-append-drop i ys) ∙ ap (λ rest. take i 
 
 pub flat_map-push : {X Y : Type 0} (f : X → List Y) (xs : List X) (x : X) → flat_map f (xs ++ x ∷ []) ≡ flat_map f xs ++ f x
 flat_map-push f xs x = flat_map-append f xs (x ∷ []) ∙ ap (λ rest. flat_map f xs ++ rest) (append-nil (f x))
-
-pub each_after-append : {X Y : Type 0} (f : List X → X → List Y) (before xs ys : List X) → each_after f before (xs ++ ys) ≡ each_after f before xs ++ each_after f (before ++ xs) ys
-each_after-append f before [] ys = ap (λ before. each_after f before ys) (sym (append-nil before))
-each_after-append f before (x ∷ xs) ys =
-    ap (λ rest. f before x ++ rest) (each_after-append f (before ++ x ∷ []) xs ys)
-    ∙ (rw (append_assoc before (x ∷ []) xs) (sym (append_assoc (f before x) (each_after f (before ++ x ∷ []) xs) (each_after f (before ++ x ∷ xs) ys))))
 
 -- A loop over items: the part of each item is walked over after those of the items before it.
 
@@ -139,11 +132,11 @@ fails-items {X = X} {w = w} {s = s} {e = e} xs i x within here p q =
 -- A walk by what stands before each item: `known` of the items before it is what the walk knows.
 
 pub walked : {S X : Type 0} (w : Walk S X) (known : List X → S) → ((before : List X) (x : X) → known (before ++ x ∷ []) ≡ w.after (known before) x)
-    → (before xs : List X) → first (each_after (λ before x. w.checks (known before) x) before xs) ≡ first_fault w (known before) xs
+    → (before xs : List X) → first_broken (each_after (λ before x. w.checks (known before) x) before xs) ≡ first_fault w (known before) xs
 walked w known more before [] = refl
 walked w known more before (x ∷ xs) =
-    first-append (w.checks (known before) x) (each_after (λ before x. w.checks (known before) x) (before ++ x ∷ []) xs)
-    ∙ ap (or_else (first (w.checks (known before) x))) (walked w known more (before ++ x ∷ []) xs ∙ ap (λ s. first_fault w s xs) (more before x))
+    first_broken-append (w.checks (known before) x) (each_after (λ before x. w.checks (known before) x) (before ++ x ∷ []) xs)
+    ∙ ap (option_or (first_broken (w.checks (known before) x))) (walked w known more (before ++ x ∷ []) xs ∙ ap (λ s. first_fault w s xs) (more before x))
 
 pub known-at_end : {S X : Type 0} (w : Walk S X) (known : List X → S) → ((before : List X) (x : X) → known (before ++ x ∷ []) ≡ w.after (known before) x)
     → (before xs : List X) → known (before ++ xs) ≡ at_end w (known before) xs
@@ -159,16 +152,16 @@ walks-then ys (Err e) u p q = fails-then p q
 -- A loop over checks.
 
 pub checks-more : {Y : Type 0} (f : Y → List Check) (ys : List Y) (i : ℕ) (y : Y) → i < length ys → y ≡ get_or ys i y
-    → first (flat_map f (take i ys)) ≡ None → first (f y) ≡ None → first (flat_map f (take (i + 1) ys)) ≡ None
+    → first_broken (flat_map f (take i ys)) ≡ None → first_broken (f y) ≡ None → first_broken (flat_map f (take (i + 1) ys)) ≡ None
 checks-more f ys i y within here p q =
-    ap (λ ys. first (flat_map f ys)) (one_more ys i y within here) ∙ ap first (flat_map-push f (take i ys) y)
-    ∙ first-append (flat_map f (take i ys)) (f y) ∙ (rw (p, q) refl)
+    ap (λ ys. first_broken (flat_map f ys)) (one_more ys i y within here) ∙ ap first_broken (flat_map-push f (take i ys) y)
+    ∙ first_broken-append (flat_map f (take i ys)) (f y) ∙ (rw (p, q) refl)
 
 pub checks-fail : {Y : Type 0} (f : Y → List Check) (ys : List Y) (i : ℕ) (y : Y) (e : ElabFault) → i < length ys → y ≡ get_or ys i y
-    → first (flat_map f (take i ys)) ≡ None → Found (first (f y)) e → Found (first (flat_map f ys)) e
+    → first_broken (flat_map f (take i ys)) ≡ None → Found (first_broken (f y)) e → Found (first_broken (flat_map f ys)) e
 checks-fail f ys i y e within here p q =
     let rest : List Check = flat_map f (drop (i + 1) ys) in
-    let parts : first (flat_map f ys) ≡ or_else (first (flat_map f (take i ys))) (or_else (first (f y)) (first rest))
-    = ap (λ ys. first (flat_map f ys)) (parted ys i y within here) ∙ ap first (flat_map-append f (take i ys) (y ∷ drop (i + 1) ys))
-    ∙ first-append (flat_map f (take i ys)) (f y ++ rest) ∙ ap (or_else (first (flat_map f (take i ys)))) (first-append (f y) rest) in
+    let parts : first_broken (flat_map f ys) ≡ option_or (first_broken (flat_map f (take i ys))) (option_or (first_broken (f y)) (first_broken rest))
+    = ap (λ ys. first_broken (flat_map f ys)) (parted ys i y within here) ∙ ap first_broken (flat_map-append f (take i ys) (y ∷ drop (i + 1) ys))
+    ∙ first_broken-append (flat_map f (take i ys)) (f y ++ rest) ∙ ap (option_or (first_broken (flat_map f (take i ys)))) (first_broken-append (f y) rest) in
     found-along _ _ e parts (found-after _ _ e p (found-or _ _ e q))

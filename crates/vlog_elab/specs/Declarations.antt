@@ -10,7 +10,8 @@ use Rattle.vlog_elab.specs.declared.face.Port.{Port}
 use Rattle.vlog_elab.specs.declared.face.Face.{Face}
 use Rattle.vlog_elab.specs.declared.face.Known.{Known}
 use Rattle.vlog_elab.specs.declared.said.Said.{Said}
-use Rattle.vlog_elab.specs.Check.{Check, check, check_at, each_after}
+use Rattle.flatten_rules.specs.Check.{each_after}
+use Rattle.vlog_elab.specs.Check.{Check, check, check_at}
 use Rattle.vlog_elab.specs.Named.{Named, named, is_there, just_names}
 use Rattle.vlog_elab.specs.Text.{is_leaf, header_names}
 use Rattle.vlog_elab.specs.Faces.{Place, Ranged, Directed, Wired, Placed, places, said, ports, known, same_range, same_ports}

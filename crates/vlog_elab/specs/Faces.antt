@@ -20,7 +20,7 @@ use Rattle.vlog_elab.specs.declared.face.Port.{Port}
 use Rattle.vlog_elab.specs.declared.face.Face.{Face}
 use Rattle.vlog_elab.specs.declared.face.Known.{Known}
 use Rattle.vlog_elab.specs.declared.said.Said.{Said}
-use Rattle.vlog_elab.specs.Check.{each_after}
+use Rattle.flatten_rules.specs.Check.{each_after}
 use Rattle.vlog_elab.specs.Named.{Named, named, numbered}
 use Rattle.vlog_elab.specs.Text.{is_leaf, header_names, header_decls, range_of}
 

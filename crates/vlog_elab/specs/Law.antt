@@ -1,11 +1,12 @@
 -- The laws of elaboration, which a public call carries.
-use Rattle.std.specs.Prelude.{◌≡◌, ◌↔◌, ◌⊎◌, Bool}
+use Rattle.std.specs.Prelude.{◌≡◌, ◌↔◌, ◌⊎◌, Bool, All}
 use Rattle.emh_base.specs.declared.plain.Plain.{Plain}
 use Rattle.flatten_rules.specs.Sound.{IsSound}
 use Rattle.vlog_read.specs.declared.tree.Tree.{Tree}
 use Rattle.vlog_read.specs.Bare.{bare}
 use Rattle.vlog_elab.specs.declared.fault.ElabFault.{ElabFault}
 use Rattle.vlog_elab.specs.Elaboration.{Elaborates, HasFault}
+use Rattle.vlog_elab.specs.Counters.{IsCountable}
 
 -- over a table a tree never gives a table and has a fault, gives only one table, and has only one fault
 pub record HasAtMostOneAnswer (M : Plain) (all_leaf : Bool) (tree : Tree) : Type 0 where
@@ -22,9 +23,10 @@ EachHasSomeAnswer = (M : Plain) (all_leaf : Bool) (tree : Tree) → IsSound M
 abbrev pub EachHasAtMostOneAnswer : Type 0
 EachHasAtMostOneAnswer = (M : Plain) (all_leaf : Bool) (tree : Tree) → HasAtMostOneAnswer M all_leaf tree
 
--- from a sound table the result is sound
+-- from a sound table, and a tree whose modules have no more nets and instances than there are ids, the result is sound
 abbrev pub StaysSound : Type 0
-StaysSound = (M : Plain) (all_leaf : Bool) (tree : Tree) (plain : Plain) → IsSound M → Elaborates M all_leaf tree plain → IsSound plain
+StaysSound = (M : Plain) (all_leaf : Bool) (tree : Tree) (plain : Plain) → IsSound M
+    → All IsCountable tree.modules → Elaborates M all_leaf tree plain → IsSound plain
 
 -- places tell where a fault is and nothing else: a tree gives a table exactly where it gives it without its places
 abbrev pub PlacesDoNotMatter : Type 0

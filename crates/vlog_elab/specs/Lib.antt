@@ -9,6 +9,7 @@ pub mod Connections
 pub mod Walk
 pub mod Walks
 pub mod Table
+pub mod Counters
 pub mod Pins
 pub mod Elaboration
 pub mod Reads

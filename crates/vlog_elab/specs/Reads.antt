@@ -2,7 +2,7 @@
 -- of the first of these that fails.
 use Rattle.std.specs.Prelude.{◌≡◌, ◌⊎◌, ℕ, Bool, List, length}
 use Rattle.emh_base.specs.declared.plain.Plain.{Plain}
-use Rattle.flatten_rules.specs.Sound.{IsSound}
+use Rattle.flatten_rules.specs.Sound.{IsSound, IsCounter}
 use Rattle.vlog_lex.specs.declared.token.Token.{Token}
 use Rattle.vlog_lex.specs.Lexes.{Lexes}
 use Rattle.vlog_lex.specs.Lexes as lex
@@ -72,3 +72,9 @@ EachHasSomeReading = (library : Plain) (all_leaf : Bool) (bytes : List ℕ) → 
 -- no file has two readings
 abbrev pub EachHasAtMostOneReading : Type 0
 EachHasAtMostOneReading = (library : Plain) (all_leaf : Bool) (bytes : List ℕ) → HasAtMostOneReading library all_leaf bytes
+
+-- from a sound library, and no more bytes than there are ids, the table is sound
+abbrev pub EachReadingStaysSound : Type 0
+EachReadingStaysSound =
+    (library plain : Plain) (all_leaf : Bool) (bytes : List ℕ) → IsSound library
+    → IsCounter (length bytes) → Reads library all_leaf bytes plain → IsSound plain

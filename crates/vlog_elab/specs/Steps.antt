@@ -16,7 +16,7 @@ use Rattle.vlog_elab.specs.declared.face.Port.{Port}
 use Rattle.vlog_elab.specs.declared.face.Face.{Face}
 use Rattle.vlog_elab.specs.declared.scope.Net.{Net}
 use Rattle.vlog_elab.specs.declared.scope.Scope.{Scope}
-use Rattle.vlog_elab.specs.Check.{each_after}
+use Rattle.flatten_rules.specs.Check.{each_after}
 use Rattle.vlog_elab.specs.Named.{Named, named, firsts}
 use Rattle.vlog_elab.specs.Text.{header_decls, range_of}
 

@@ -1,22 +1,20 @@
 -- A walk over items in order. Before each item something is known, by which the item is checked, and it adds to what is
 -- known.
 use Rattle.std.specs.Prelude.{◌≡◌, List, [], ◌∷◌, Option, Some, None, Result, Ok, Err}
+use Rattle.std.specs.Option.{option_or}
 use Rattle.vlog_elab.specs.declared.fault.ElabFault.{ElabFault}
 use Rattle.vlog_elab.specs.declared.fault.ElabFault.TheVariants.{Fault, NoMemory}
-use Rattle.vlog_elab.specs.Check.{Check, first}
+use Rattle.flatten_rules.specs.Check.{first_broken}
+use Rattle.vlog_elab.specs.Check.{Check}
 
 pub record Walk (S X : Type 0) : Type 0 where
   pub checks : S → X → List Check
   pub after : S → X → S
 
-abbrev pub or_else : Option ElabFault → Option ElabFault → Option ElabFault
-or_else (Some fault) other = Some fault
-or_else None other = other
-
 -- the first fault of a walk that begins with s known
 abbrev pub first_fault : {S X : Type 0} → Walk S X → S → List X → Option ElabFault
 first_fault w s [] = None
-first_fault w s (x ∷ xs) = or_else (first (w.checks s x)) (first_fault w (w.after s x) xs)
+first_fault w s (x ∷ xs) = option_or (first_broken (w.checks s x)) (first_fault w (w.after s x) xs)
 
 -- what is known at its end
 abbrev pub at_end : {S X : Type 0} → Walk S X → S → List X → S
@@ -49,5 +47,5 @@ Gives w s xs (Err fault) = Fails w s xs fault
 
 -- what a function gives that looks at checks
 abbrev pub Checks : {T : Type 0} → List Check → Result T ElabFault → Type 0
-Checks cs (Ok _) = first cs ≡ None
-Checks cs (Err fault) = Found (first cs) fault
+Checks cs (Ok _) = first_broken cs ≡ None
+Checks cs (Err fault) = Found (first_broken cs) fault

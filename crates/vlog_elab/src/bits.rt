@@ -2,6 +2,7 @@
 ghost use Rattle.std.specs.Prelude.{◌≡◌, ◌++◌, ◌≤◌, ◌/◌, ◌%◌, ◌^◌, ◌==◌, if◌then◌else◌, slice_get, IfOk, OnOk};
 ghost use Rattle.std.specs.List.{flat_map};
 ghost use Rattle.std.specs.Option.{option_map};
+ghost use Rattle.flatten_rules.specs.Sound.{IsCounter};
 ghost use Rattle.vlog_elab.specs.Named.{named};
 ghost use Rattle.vlog_elab.specs.Connections.{net_range};
 ghost use Rattle.flatten_rules.specs.Lookup.{bits_from};
@@ -98,6 +99,14 @@ pub fn number(place: usize) -> Result<u32, NoMemory>
         Ok(number) => Ok(number),
         Err(_) => Err(NoMemory),
     }
+}
+
+/// A number of nets or instances as the counter of their ids.
+pub fn counter(count: usize) -> Result<u32, NoMemory>
+    ensures is { IfOk result (λ counter. counter ≡ count) }
+    ensures few { IfOk result (λ counter. IsCounter counter) }
+{
+    number(count)
 }
 
 /// The offset of an index from the left end of a range.

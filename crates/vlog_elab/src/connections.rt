@@ -6,7 +6,7 @@ ghost use Rattle.vlog_read.specs.declared.tree.At.{At};
 ghost use Rattle.vlog_read.specs.declared.tree.TModule.{TModule};
 ghost use Rattle.vlog_elab.specs.declared.face.Face.{Face};
 ghost use Rattle.vlog_elab.specs.declared.scope.Scope.{Scope};
-ghost use Rattle.vlog_elab.specs.Check.{each_after};
+ghost use Rattle.flatten_rules.specs.Check.{each_after};
 ghost use Rattle.vlog_elab.specs.Named.{named, place_of};
 ghost use Rattle.vlog_elab.specs.Text.{is_leaf, header_decls, range_of};
 ghost use Rattle.vlog_elab.specs.Steps.{Declares, Places, Connects, Uses, Fits, decl_steps, conn_steps, inst_steps, item_steps, steps};

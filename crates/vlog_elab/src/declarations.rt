@@ -4,7 +4,7 @@ ghost use Rattle.std.specs.List.{flat_map};
 ghost use Rattle.emh_base.specs.declared.plain.Range.{Range};
 ghost use Rattle.vlog_read.specs.declared.tree.Decl.{Decl};
 ghost use Rattle.vlog_elab.specs.declared.said.Said.{Said};
-ghost use Rattle.vlog_elab.specs.Check.{first};
+ghost use Rattle.flatten_rules.specs.Check.{first_broken};
 ghost use Rattle.vlog_elab.specs.Text.{header_names, header_decls, range_of};
 ghost use Rattle.vlog_elab.specs.Faces.{Directed, Wired, Placed, range_places, name_place, decl_places, item_places, places, said, ports};
 ghost use Rattle.vlog_elab.specs.Declarations.{inside_checks};

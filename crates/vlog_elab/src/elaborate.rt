@@ -1,13 +1,14 @@
-ghost use Rattle.std.specs.Prelude.{◌≡◌, ◌+◌, ◌<◌, ◌≤◌, ℕ, Bool, None, Some, List, length, ◌↔◌, IsTrue, slice_get, IfOk, IfErr, MatchResult};
+ghost use Rattle.std.specs.Prelude.{◌≡◌, ◌+◌, ◌<◌, ◌≤◌, ℕ, Bool, None, Some, List, length, ◌↔◌, IsTrue, slice_get, All, IfOk, IfErr, MatchResult};
 ghost use Rattle.emh_base.specs.declared.plain.Plain.{Plain};
 ghost use Rattle.flatten_rules.specs.Sound.{IsSound};
 ghost use Rattle.vlog_read.specs.declared.tree.TModule.{TModule};
 ghost use Rattle.vlog_elab.specs.declared.fault.ElabFault.{ElabFault};
-ghost use Rattle.vlog_elab.specs.Check.{first};
+ghost use Rattle.flatten_rules.specs.Check.{first_broken};
 ghost use Rattle.vlog_elab.specs.Named.{place_of};
 ghost use Rattle.vlog_elab.specs.Faces.{added, faces, known};
 ghost use Rattle.vlog_elab.specs.Elaboration.{checks, Elaborates, HasFault, UnlessNoMemory};
 ghost use Rattle.vlog_elab.specs.Walk.{Found};
+ghost use Rattle.vlog_elab.specs.Counters.{HasCounters};
 
 use crate::connections::check_connections;
 use crate::face::{Face, Known};
@@ -42,6 +43,7 @@ pub fn elab(alloc: Global, table: &Plain, tree: &Tree, all_leaf: bool) -> Result
 fn rounds(alloc: Global, table: &Plain, tree: &Tree, all_leaf: bool) -> Result<Plain, ElabFault>
     requires { IsSound table.now }
     ensures table { IfOk result (Elaborates table.now all_leaf tree.now) }
+    ensures counters { IfOk result (λ made. All HasCounters made.modules) }
     ensures fault { IfErr result (UnlessNoMemory (HasFault table.now all_leaf tree.now)) }
 {
     let known = checked(alloc, table, tree, all_leaf)?;
@@ -65,8 +67,8 @@ fn checked<'a>(
 ) -> Result<Known<'a>, ElabFault>
     requires { IsSound table.now }
     ensures { MatchResult result
-        (λ made. (first (checks table.now all_leaf tree.now) ≡ None) × (made ≡ known table.now all_leaf tree.now.modules))
-        (Found (first (checks table.now all_leaf tree.now))) }
+        (λ made. (first_broken (checks table.now all_leaf tree.now) ≡ None) × (made ≡ known table.now all_leaf tree.now.modules))
+        (Found (first_broken (checks table.now all_leaf tree.now))) }
 {
     let modules = tree.modules.as_slice();
     let mut known = known_of(alloc, table)?;

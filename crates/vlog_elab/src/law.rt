@@ -1,5 +1,5 @@
 ghost use Rattle.vlog_elab.specs.Law.{EachHasAtMostOneAnswer, EachHasSomeAnswer, PlacesDoNotMatter, StaysSound};
-ghost use Rattle.vlog_elab.specs.Reads.{EachHasAtMostOneReading, EachHasSomeReading};
+ghost use Rattle.vlog_elab.specs.Reads.{EachHasAtMostOneReading, EachHasSomeReading, EachReadingStaysSound};
 
 /// The laws of elaboration: over a sound table a tree gives a table or has a fault, and over no table two tables, or
 /// two faults, or a table and a fault; from a sound table the result is sound; and the places of a tree tell where its
@@ -12,8 +12,10 @@ pub fn one_elaboration()
 {}
 
 /// The law of reading: over a sound library bytes give a table or have a fault, and over no library two tables, or two
-/// faults, or a table and a fault. The contract is what this is for.
+/// faults, or a table and a fault; the table is sound, where there are no more bytes than ids. The contract is what this is
+/// for.
 pub fn one_reading()
     ensures some { EachHasSomeReading }
     ensures one { EachHasAtMostOneReading }
+    ensures sound { EachReadingStaysSound }
 {}

@@ -2,7 +2,7 @@
 ghost use Rattle.std.specs.Prelude.{◌≡◌, [], ◌∷◌, None, MatchResult};
 ghost use Rattle.std.specs.List.{flat_map};
 ghost use Rattle.vlog_read.specs.declared.tree.Decl.{Decl};
-ghost use Rattle.vlog_elab.specs.Check.{first};
+ghost use Rattle.flatten_rules.specs.Check.{first_broken};
 ghost use Rattle.vlog_elab.specs.Text.{header_names};
 ghost use Rattle.vlog_elab.specs.Faces.{ports};
 ghost use Rattle.vlog_elab.specs.Declarations.{inside_checks};
@@ -18,8 +18,8 @@ use vlog_read::{At, Decl, Header, TModule};
 
 /// The ports of a module, whose header and declarations are to be as they should.
 pub fn ports<'a>(alloc: Global, leaf: bool, m: &'a TModule) -> Result<Names<'a, Port>, ElabFault>
-    ensures { MatchResult result (λ made. (first (inside_checks leaf m.now) ≡ None) × (made ≡ ports m.now))
-        (Found (first (inside_checks leaf m.now))) }
+    ensures { MatchResult result (λ made. (first_broken (inside_checks leaf m.now) ≡ None) × (made ≡ ports m.now))
+        (Found (first_broken (inside_checks leaf m.now))) }
 {
     let names = header_of(alloc, &m.header)?;
     let said = said_of(alloc, leaf, &names, m)?;

@@ -6,9 +6,10 @@ ghost use Rattle.vlog_elab.specs.declared.face.Port.{Port};
 ghost use Rattle.vlog_elab.specs.declared.scope.Net.{Net};
 ghost use Rattle.vlog_elab.specs.Named.{named, numbered};
 ghost use Rattle.vlog_elab.specs.Faces.{face};
+ghost use Rattle.vlog_elab.specs.Counters.{HasCounters};
 ghost use Rattle.vlog_elab.specs.Table.{nets, net_row, port_row, inst_row, insts_in, insts, row};
 
-use crate::bits::{net_id, number};
+use crate::bits::{counter, net_id, number};
 use crate::conns::conns_of;
 use crate::face::{Face, Port};
 use crate::names::Names;
@@ -25,8 +26,9 @@ pub fn row_of(
     own: &Face<'_>,
     m: &TModule,
 ) -> Result<PModule, NoMemory>
-    ensures { IfOk result (λ made. (all_leaf : Bool) (id : ℕ) → own.now ≡ (face all_leaf id m.now).1
+    ensures row { IfOk result (λ made. (all_leaf : Bool) (id : ℕ) → own.now ≡ (face all_leaf id m.now).1
         → made ≡ row faces.now all_leaf id m.now) }
+    ensures counters { IfOk result HasCounters }
 {
     let nets = nets_of(alloc, m)?;
     let insts = insts_of(alloc, faces, &nets, m)?;
@@ -37,8 +39,8 @@ pub fn row_of(
         locked: false,
         nets: net_rows(alloc, &nets)?,
         ports: port_rows(alloc, &nets, &own.ports)?,
-        next_net: number(nets.len())?,
-        next_inst: number(insts.len())?,
+        next_net: counter(nets.len())?,
+        next_inst: counter(insts.len())?,
         insts,
     })
 }

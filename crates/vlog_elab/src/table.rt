@@ -1,8 +1,9 @@
 //! The table of a text, as rows.
-ghost use Rattle.std.specs.Prelude.{◌≡◌, ◌≢◌, ℕ, Bool, Some, ◌++◌, ◌∷◌, [], length, slice_get, IfOk, OnOk};
+ghost use Rattle.std.specs.Prelude.{◌≡◌, ◌≢◌, ℕ, Bool, Some, ◌++◌, ◌∷◌, [], length, slice_get, All, IfOk, OnOk};
 ghost use Rattle.vlog_elab.specs.Named.{place_of, numbered};
 ghost use Rattle.vlog_elab.specs.Faces.{added, face, faces};
 ghost use Rattle.vlog_elab.specs.Table.{row};
+ghost use Rattle.vlog_elab.specs.Counters.{HasCounters};
 
 use crate::face::Face;
 use crate::names::Names;
@@ -18,8 +19,9 @@ pub fn rows_of(
     masters: &Names<'_, Face<'_>>,
     modules: &[TModule],
 ) -> Result<List<PModule>, NoMemory>
-    ensures { (all_leaf : Bool) → masters.now ≡ faces table.now all_leaf modules.now → IfOk result (λ rows. rows
+    ensures rows { (all_leaf : Bool) → masters.now ≡ faces table.now all_leaf modules.now → IfOk result (λ rows. rows
         ≡ table.now.modules ++ numbered (row masters.now all_leaf) table.now.next_module (added table.now modules.now)) }
+    ensures counters { All HasCounters table.now.modules → IfOk result (All HasCounters) }
 {
     let mut rows = table.modules.copy()?;
     for m in modules {
@@ -39,6 +41,7 @@ fn add_row(
     ensures new { (all_leaf : Bool) (id : ℕ) → place_of masters.now m.now.name.name ≡ Some (length rows.old)
         → slice_get masters.now (length rows.old) ≡ Some (face all_leaf id m.now)
         → OnOk result (rows.new ≡ rows.old ++ row masters.now all_leaf id m.now ∷ []) }
+    ensures counters { All HasCounters rows.old → OnOk result (All HasCounters rows.new) }
 {
     let Some(place) = masters.find(&m.name.name) else {
         return Ok(());

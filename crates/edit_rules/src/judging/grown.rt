@@ -4,15 +4,16 @@ ghost use Rattle.flatten_rules.specs.Domains.{is_leaf};
 ghost use Rattle.flatten_rules.specs.Sound.{IsSound};
 ghost use Rattle.edit_rules.specs.Good.{IsGoodState};
 ghost use Rattle.edit_rules.specs.Insts.{create_inst};
-ghost use Rattle.edit_rules.specs.Limits.{is_too_deep, has_too_many_occurrences, has_too_many_bits, leads_to};
+ghost use Rattle.flatten_rules.specs.Limits.{is_too_deep, has_too_many_occurrences, has_too_many_bits, leads_to};
 ghost use Rattle.edit_rules.specs.Readers.{is_module};
 ghost use Rattle.edit_rules.specs.Facts.{inst_after};
 
 use super::outline::grown_outline;
-use crate::depth::is_too_deep;
 use crate::facts::Facts;
-use crate::limits::{OCCURRENCE_LIMIT, has_too_many_bits, has_too_many_occurrences, leads_to};
 use emh_base::{ModId, Name, NoMemory};
+use flatten_rules::{
+    OCCURRENCE_LIMIT, has_too_many_bits, has_too_many_occurrences, is_too_deep, leads_to,
+};
 use std::alloc::Global;
 
 /// Which limits there would be above with an instance more in a module.

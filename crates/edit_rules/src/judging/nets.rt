@@ -1,20 +1,21 @@
 ghost use Rattle.std.specs.Prelude.{◌≡◌, ℕ, ◌*◌, ◌≤◌, false, List as Seq, IsTrue};
 ghost use Rattle.emh_base.specs.declared.plain.Dir.{Dir};
+ghost use Rattle.flatten_rules.specs.Bounds.{occurrence_limit};
 ghost use Rattle.flatten_rules.specs.Lookup.{module_of, width};
 ghost use Rattle.flatten_rules.specs.Domains.{is_leaf};
 ghost use Rattle.flatten_rules.specs.Sound.{IsSound};
 ghost use Rattle.edit_rules.specs.Good.{IsGoodState};
 ghost use Rattle.edit_rules.specs.Judged.{Looks};
-ghost use Rattle.edit_rules.specs.Limits.{has_too_many_bits};
+ghost use Rattle.flatten_rules.specs.Limits.{has_too_many_bits};
 ghost use Rattle.edit_rules.specs.Readers.{is_module, is_too_wide};
 ghost use Rattle.edit_rules.specs.Nets.{create_net, create_net_rules, create_port, create_port_rules, delete_net_rules, delete_port_rules, rename_net_rules};
 
 use super::common::{common, is_net, is_port};
 use crate::facts::Facts;
 use crate::judged::{Judged, keep};
-use crate::limits::BIT_LIMIT;
 use crate::readers::{is_too_wide, lacks_room};
 use emh_base::{Dir, ModId, Name, NetId, Object, Range, Rule};
+use flatten_rules::BIT_LIMIT;
 
 /// Looks at the rules of a DeleteNet.
 pub fn delete_net<F: Facts>(facts: &F, id: ModId, net: NetId) -> Result<(), Judged>
@@ -145,7 +146,7 @@ fn width_of(range: Option<Range>) -> u64
 /// So many bits in each of so many occurrences.
 fn times_over(bits: u64, times: u64) -> u64
     requires bits { bits ≤ 4096 }
-    requires times { times ≤ 1000000 }
+    requires times { times ≤ occurrence_limit }
     ensures value { result ≡ bits * times }
     ensures few { result ≤ 4096000000 }
 {

@@ -3,7 +3,7 @@ ghost use Rattle.flatten_rules.specs.Lookup.{module_of, insts_of};
 ghost use Rattle.flatten_rules.specs.Sound.{IsSound};
 ghost use Rattle.edit_rules.specs.Readers.{is_module, nets_of};
 ghost use Rattle.edit_rules.specs.Insts.{with_inst_alone};
-ghost use Rattle.edit_rules.specs.Outline.{bare_inst, bare_net, bare, grown, grown_outline};
+ghost use Rattle.edit_rules.specs.inside.Outline.{bare_inst, bare_net, bare, grown, grown_outline};
 
 use super::common::master_of;
 use crate::facts::Facts;

@@ -3,7 +3,7 @@ ghost use Rattle.flatten_rules.specs.Lookup.{module_of, width_of};
 ghost use Rattle.flatten_rules.specs.Domains.{ports_of};
 ghost use Rattle.flatten_rules.specs.Sound.{IsSound};
 ghost use Rattle.edit_rules.specs.Readers.{is_module, net_in, same_ports, same_net, is_buffer};
-ghost use Rattle.edit_rules.specs.Ports.{are_alike_at, pair_of, is_through};
+ghost use Rattle.edit_rules.specs.inside.Ports.{are_alike_at, pair_of, is_through};
 
 use crate::facts::Facts;
 use crate::readers::{goes_through, same_dir, same_range};

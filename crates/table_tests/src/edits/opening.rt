@@ -1,9 +1,12 @@
 //! Tables opened as designs at a top.
-use super::designs::{Design, state_of};
+use super::asks::Ask;
+use super::asks::Ask::{CreateInst, CreateNet};
+use super::designs::{BARE, Design, state_of};
 use super::limits::{FULL, TOP, chain};
 use super::rows::TWO_LEVEL;
-use crate::modules::name_of;
-use edit_rules::{OpenFault, fit};
+use super::{begun, carried};
+use crate::modules::{EMPTY, Module, name_of};
+use edit_rules::{Judged, OpenFault, fit};
 use emh_base::{ModId, NoMemory, Plain};
 use flatten_rules::is_sound;
 use std::alloc::Global;
@@ -65,5 +68,52 @@ fn a_table_fits_within_the_limits(rt: HostRuntime) -> Result<(), NoMemory> {
         let state = chain(rt.alloc(), &TOP, *links, *count)?;
         fits(&rt, rt.alloc(), &state.plain, top, *told)?;
     }
+    Ok(())
+}
+
+/// A leaf in place of the top.
+const LEAF: Design = Design {
+    modules: &[Module {
+        name: "t",
+        leaf: true,
+        ..EMPTY
+    }],
+    next_module: 1,
+    ..BARE
+};
+
+#[test]
+fn a_leaf_is_no_top_also_where_walks_are_too_long(rt: HostRuntime) -> Result<(), NoMemory> {
+    let state = chain(rt.alloc(), &LEAF, 258, 1)?;
+    fits(&rt, rt.alloc(), &state.plain, "t", Err(OpenFault::IsCell))?;
+    fits(&rt, rt.alloc(), &state.plain, "e0", Err(OpenFault::TooDeep))
+}
+
+/// What is put into a module that the top doesn't reach, and what is told of it as a top then. One of module 8 has
+/// 4,000,000 net bits, and one of module 9 has one.
+const FILLED: &[(Ask, Result<u32, OpenFault>)] = &[
+    (CreateInst(10, "a", 8), Ok(10)),
+    (CreateInst(10, "b", 9), Err(OpenFault::TooManyBits)),
+];
+
+#[test]
+fn a_top_has_at_most_4000000_net_bits(rt: HostRuntime) -> Result<(), Judged> {
+    let mut state = begun(&rt, rt.alloc(), &FULL, &[])?;
+    for (ask, told) in FILLED {
+        carried(&rt, rt.alloc(), &mut state, *ask)?;
+        fits(&rt, rt.alloc(), &state.plain, "none", *told)?;
+    }
+    Ok(())
+}
+
+#[test]
+fn occurrences_are_looked_at_before_net_bits(rt: HostRuntime) -> Result<(), Judged> {
+    let mut state = chain(rt.alloc(), &TOP, 20, 2)?;
+    let net = CreateNet(1, "n", Some((0, 4095)));
+    carried(&rt, rt.alloc(), &mut state, net)?;
+    let few = Err(OpenFault::TooManyBits);
+    fits(&rt, rt.alloc(), &state.plain, "e10", few)?;
+    let many = Err(OpenFault::TooManyOccurrences);
+    fits(&rt, rt.alloc(), &state.plain, "e19", many)?;
     Ok(())
 }

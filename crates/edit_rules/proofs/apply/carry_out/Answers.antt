@@ -1,5 +1,5 @@
 use Rattle.std.proofs.Common.{sym, subst}
-use Rattle.edit_rules.specs.Order.{InOrder}
+use Rattle.edit_rules.specs.inside.Order.{InOrder}
 use Rattle.edit_rules.proofs.OrderLemmas.{order-after}
 use Rattle.edit_rules.proofs.SurvivalLemmas.{after_made}
 use Rattle.edit_rules.proofs.apply.carry_out.Goals as goal

@@ -9,6 +9,14 @@ use Rattle.edit_rules.specs.Readers.{users}
 use Rattle.edit_rules.specs.Examples.{inst}
 use Rattle.edit_rules.proofs.laws.worked_readers.Goals as goal
 
+pub returns-clause-modules : goal.returns-clause-modules
+unfolding two_level
+returns-clause-modules c = (refl, refl, refl, refl, refl, refl, refl, refl, refl, refl)
+
+pub returns-clause-uses : goal.returns-clause-uses
+unfolding two_level
+returns-clause-uses c = (refl, refl, refl, refl, refl, refl, refl)
+
 pub returns-clause-names : goal.returns-clause-names
 unfolding two_level
 returns-clause-names c = (refl, refl, refl, refl, refl, refl, refl, refl)

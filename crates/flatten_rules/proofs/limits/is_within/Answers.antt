@@ -1,25 +1,20 @@
-use Rattle.std.proofs.Common.{◌∙◌, sym, IsTrue, ◌↔◌}
-use Rattle.std.proofs.lemmas.Bool.{false≢true}
-use Rattle.flatten_rules.proofs.Within.{AllShallow, within-from_extents, extents-from_within}
+use Rattle.std.proofs.Common.{not, sym, ap, ◌∙◌}
+use Rattle.std.proofs.lemmas.Bool.{false≢true, not-true}
+use Rattle.flatten_rules.proofs.LimitTests.{within_tests}
 use Rattle.flatten_rules.proofs.limits.is_within.Goals as goal
-use Rattle.flatten_rules.proofs.limits.is_within.Goals.{then-are_shallow, else-are_shallow}
+
+pub returns-then-branch : goal.returns-then-branch
+returns-then-branch c =
+    let law = within_tests c.args.plain.now c.args.top c.requires in (
+      λ yes. absurd (false≢true yes),
+      λ within. absurd (false≢true (sym (sym c.if-branch.true ∙ c.in_ok-is_too_deep.ensures ∙ (law.0 within).0))),
+    )
 
 pub returns : goal.returns
 returns c =
-    let plain = c.args.plain.now in
-    let top = c.args.top in
-    let extents = c.in_ok-counted.counted in
-    let at_top = c.extent_at-at_top.result in
-    let known = c.in_ok-counted.ensures in
-    let here = c.extent_at-at_top.ensures in
-    let shallow : IsTrue c.are_shallow.result ↔ AllShallow extents = rw (← c.as_slice-modules.ensures) c.are_shallow.ensures in
-    elim c.if-are_shallow.branch [
-      | then-are_shallow w ↦ (
-        λ yes. within-from_extents plain top extents at_top c.requires known here (shallow.0 w.if-are_shallow.true) (w.is_small.ensures.0 (sym w.result-is ∙ yes)),
-        λ within. w.result-is ∙ w.is_small.ensures.1 (extents-from_within plain top extents at_top c.requires known here within).1,
-      )
-      | else-are_shallow w ↦ (
-        λ yes. absurd (false≢true (sym w.if-are_shallow.false ∙ sym w.result-is ∙ yes)),
-        λ within. absurd (false≢true (sym w.if-are_shallow.false ∙ shallow.1 (extents-from_within plain top extents at_top c.requires known here within).0)),
-      )
-    ]
+    let law = within_tests c.args.plain.now c.args.top c.requires in
+    let deep = sym c.in_ok-is_too_deep.ensures ∙ c.if-branch.false in
+    let many = sym c.in_ok-has_too_many_occurrences.ensures ∙ c.if-branch-2.false in (
+      λ kept. law.1 (deep, many, sym c.in_ok-has_too_many_bits.ensures ∙ not-true c.in_ok-has_too_many_bits.field-0 kept),
+      λ within. ap not (c.in_ok-has_too_many_bits.ensures ∙ (law.0 within).2),
+    )

@@ -3,8 +3,8 @@ use Rattle.std.proofs.lemmas.Bool.{leb-true, le-leb, false≢true}
 use Rattle.flatten_rules.proofs.Rising.{rises-more, rises-not, rises-all}
 use Rattle.flatten_rules.proofs.numbered.rises.Goals as goal
 
-pub returns-then-from-next : goal.returns-then-from-next
-returns-then-from-next g c =
+pub returns-then-from-next-clause-rises : goal.returns-then-from-next-clause-rises
+returns-then-from-next-clause-rises g c =
     let number = g.T.Numbered.number_of in
     let items = c.args.items.now in
     let i = c.loop-item.item-index in
@@ -22,8 +22,8 @@ loop-item-preserved g c =
     let high : c.loop-item.next ≤ number (get_or items i item) = omega (arith, c.from.ensures, c.number.ensures, at) in
     rw (c.from-next.ensures ∙ c.number-in-loop-item.ensures ∙ at) (rises-more number items i item c.loop-item.next c.loop-item-test.true high c.loop-item.invariant)
 
-pub returns : goal.returns
-returns g c =
+pub returns-clause-rises : goal.returns-clause-rises
+returns-clause-rises g c =
     let all = rises-all g.T.Numbered.number_of c.args.items.now c.loop-item.item-index c.loop-item.next c.args.counter c.loop-item-test.false c.loop-item.invariant in (
       λ yes. all.0 (omega (arith, leb-true c.loop-item.next c.from-2.result yes, c.from-2.ensures)),
       λ sound. le-leb c.loop-item.next c.from-2.result (omega (arith, all.1 sound, c.from-2.ensures)),

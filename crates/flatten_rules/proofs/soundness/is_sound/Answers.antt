@@ -13,11 +13,12 @@ pub returns : goal.returns
 returns c =
     let M = c.args.plain.now in
     let first = c.in_ok-first_on_cycle.field-0 in
-    let rises = rw c.as_slice.ensures at (c.rises.ensures.0 c.if-not-rises.false) in (
+    let rises = rw c.as_slice.ensures at (c.rises.ensures.rises.0 c.if-not-rises.false) in (
       λ none. record {
         names = c.in_ok-modules_have_own_names.ensures.0 c.if-not-branch.false;
         rise = rises.0;
         below = rises.1;
+        counter = c.rises.ensures.counter;
         modules = c.in_ok-are_sound.ensures.0 c.if-not-branch-2.false;
         no_cycle = no_cycle-from_none M first c.in_ok-first_on_cycle.ensures (c.is_none.ensures ∙ ap not none);
       },

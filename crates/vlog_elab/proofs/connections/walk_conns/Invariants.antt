@@ -1,5 +1,5 @@
 use Rattle.std.proofs.Common.{◌≡◌, [], take}
-use Rattle.vlog_elab.specs.Check.{each_after}
+use Rattle.flatten_rules.specs.Check.{each_after}
 use Rattle.vlog_elab.specs.Steps.{conn_steps}
 use Rattle.vlog_elab.specs.Connections.{ports_named}
 use Rattle.vlog_elab.specs.Walk.{Passed}

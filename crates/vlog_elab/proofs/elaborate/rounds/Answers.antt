@@ -8,23 +8,24 @@ use Rattle.vlog_elab.specs.Faces.{added}
 use Rattle.vlog_elab.specs.Table.{built}
 use Rattle.vlog_elab.proofs.Rising.{modules_rise, all_insts_rise}
 use Rattle.vlog_elab.proofs.Building.{made-is, faces-known, place-within, fault-of_cycle}
+use Rattle.vlog_elab.proofs.Counters.{table-counters}
 use Rattle.vlog_elab.proofs.elaborate.rounds.Goals as goal
 
 pub first_on_cycle-requires-clause-rise : goal.first_on_cycle-requires-clause-rise
 first_on_cycle-requires-clause-rise c =
-    let made = c.in_ok-modules.ensures c.args.all_leaf (faces-known c.args.table.now c.args.all_leaf c.args.tree.now c.in_ok-known.known c.as_slice.result.now c.as_slice.ensures c.in_ok-known.ensures.1) in
+    let made = c.in_ok-modules.ensures.rows c.args.all_leaf (faces-known c.args.table.now c.args.all_leaf c.args.tree.now c.in_ok-known.known c.as_slice.result.now c.as_slice.ensures c.in_ok-known.ensures.1) in
     subst (λ (rows : List PModule). AllPairs (λ (a b : PModule). a.id.0 < b.id.0) rows) (sym made)
     (modules_rise c.args.table.now c.in_ok-known.known.faces c.args.all_leaf (added c.args.table.now c.as_slice.result.now) c.requires)
 
 pub first_on_cycle-requires-clause-insts : goal.first_on_cycle-requires-clause-insts
 first_on_cycle-requires-clause-insts c =
-    let made = c.in_ok-modules.ensures c.args.all_leaf (faces-known c.args.table.now c.args.all_leaf c.args.tree.now c.in_ok-known.known c.as_slice.result.now c.as_slice.ensures c.in_ok-known.ensures.1) in
+    let made = c.in_ok-modules.ensures.rows c.args.all_leaf (faces-known c.args.table.now c.args.all_leaf c.args.tree.now c.in_ok-known.known c.as_slice.result.now c.as_slice.ensures c.in_ok-known.ensures.1) in
     subst (λ (rows : List PModule). All (λ (m : PModule). AllPairs (λ (a b : PInst). a.id.0 < b.id.0) m.insts) rows) (sym made)
     (all_insts_rise c.args.table.now c.in_ok-known.known.faces c.args.all_leaf (added c.args.table.now c.as_slice.result.now) c.requires)
 
 pub recursive-requires-clause-within : goal.recursive-requires-clause-within
 recursive-requires-clause-within c =
-    let made = c.in_ok-modules.ensures c.args.all_leaf (faces-known c.args.table.now c.args.all_leaf c.args.tree.now c.in_ok-known.known c.as_slice.result.now c.as_slice.ensures c.in_ok-known.ensures.1) in
+    let made = c.in_ok-modules.ensures.rows c.args.all_leaf (faces-known c.args.table.now c.args.all_leaf c.args.tree.now c.in_ok-known.known c.as_slice.result.now c.as_slice.ensures c.in_ok-known.ensures.1) in
     let plain : Plain = record { modules = c.in_ok-modules.modules; next_module = c.in_ok-known.known.next_module } in
     let on_cycle : IsFirstOnCycle plain c.len.result (Some c.in-Some.place) = subst (IsFirstOnCycle plain c.len.result) c.in-Some.is c.in_ok-place.ensures in
     rw (c.as_slice-in-Some.ensures, ← c.as_slice.ensures)
@@ -32,7 +33,7 @@ recursive-requires-clause-within c =
 
 pub returns-in-Some-clause-fault : goal.returns-in-Some-clause-fault
 returns-in-Some-clause-fault c =
-    let made = c.in_ok-modules.ensures c.args.all_leaf (faces-known c.args.table.now c.args.all_leaf c.args.tree.now c.in_ok-known.known c.as_slice.result.now c.as_slice.ensures c.in_ok-known.ensures.1) in
+    let made = c.in_ok-modules.ensures.rows c.args.all_leaf (faces-known c.args.table.now c.args.all_leaf c.args.tree.now c.in_ok-known.known c.as_slice.result.now c.as_slice.ensures c.in_ok-known.ensures.1) in
     let is = made-is c.args.table.now c.args.all_leaf c.args.tree.now c.in_ok-known.known c.as_slice.result.now c.in_ok-modules.modules c.as_slice.ensures c.in_ok-known.ensures.1 made in
     let plain : Plain = record { modules = c.in_ok-modules.modules; next_module = c.in_ok-known.known.next_module } in
     let at_len : IsFirstOnCycle plain (length c.args.table.now.modules) (Some c.in-Some.place)
@@ -47,7 +48,7 @@ returns-in-Some-clause-fault c =
 
 pub returns-clause-table : goal.returns-clause-table
 returns-clause-table c =
-    let made = c.in_ok-modules.ensures c.args.all_leaf (faces-known c.args.table.now c.args.all_leaf c.args.tree.now c.in_ok-known.known c.as_slice.result.now c.as_slice.ensures c.in_ok-known.ensures.1) in
+    let made = c.in_ok-modules.ensures.rows c.args.all_leaf (faces-known c.args.table.now c.args.all_leaf c.args.tree.now c.in_ok-known.known c.as_slice.result.now c.as_slice.ensures c.in_ok-known.ensures.1) in
     let is = made-is c.args.table.now c.args.all_leaf c.args.tree.now c.in_ok-known.known c.as_slice.result.now c.in_ok-modules.modules c.as_slice.ensures c.in_ok-known.ensures.1 made in
     let plain : Plain = record { modules = c.in_ok-modules.modules; next_module = c.in_ok-known.known.next_module } in
     let at_len : IsFirstOnCycle plain (length c.args.table.now.modules) None
@@ -57,3 +58,6 @@ returns-clause-table c =
       no_cycle = subst (λ (M : Plain). IsFirstOnCycle M (length c.args.table.now.modules) None) is at_len;
       table = is;
     }
+
+pub returns-clause-counters : goal.returns-clause-counters
+returns-clause-counters c = c.in_ok-modules.ensures.counters (table-counters c.args.table.now c.requires)

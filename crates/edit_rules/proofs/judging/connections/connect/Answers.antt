@@ -1,11 +1,13 @@
 use Rattle.std.proofs.Common.{◌≡◌, subst, None, Err, List, ◌++◌, ◌∙◌, flat_map, length}
 use Rattle.std.proofs.lemmas.Result.{err_from_is_err_and}
 use Rattle.emh_base.specs.declared.plain.Src.{Src}
-use Rattle.edit_rules.specs.Check.{Check, first_broken}
+use Rattle.flatten_rules.specs.Check.{first_broken}
+use Rattle.edit_rules.specs.Check.{Check}
 use Rattle.edit_rules.specs.Judged.{Looks}
 use Rattle.edit_rules.specs.Modules.{common}
 use Rattle.edit_rules.specs.Insts.{names_port, source_rules, width_rules}
-use Rattle.edit_rules.proofs.CheckLemmas.{first_broken-kept, first_broken-broken, looks_err-by, looks-after}
+use Rattle.flatten_rules.proofs.FirstBroken.{first_broken-kept, first_broken-broken}
+use Rattle.edit_rules.proofs.CheckLemmas.{looks_err-by, looks-after}
 use Rattle.edit_rules.proofs.judging.connections.connect.Goals as goal
 
 pub returns-in_err-sources : goal.returns-in_err-sources

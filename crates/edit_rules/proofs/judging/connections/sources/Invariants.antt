@@ -1,7 +1,7 @@
 -- No rule of the sources so far is broken, so the first broken one is the first of the others.
 use Rattle.std.proofs.Common.{◌≡◌, drop}
 use Rattle.std.specs.List.{flat_map}
-use Rattle.edit_rules.specs.Check.{first_broken}
+use Rattle.flatten_rules.specs.Check.{first_broken}
 use Rattle.edit_rules.specs.Insts.{source_rules}
 use Rattle.edit_rules.proofs.judging.connections.sources.Given as goal
 

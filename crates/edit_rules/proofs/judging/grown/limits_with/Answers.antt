@@ -11,9 +11,9 @@ use Rattle.edit_rules.specs.Good.{IsGoodState}
 use Rattle.edit_rules.specs.Readers.{is_module}
 use Rattle.flatten_rules.specs.Changes.{with_module}
 use Rattle.edit_rules.specs.Insts.{with_inst_alone, create_inst}
-use Rattle.edit_rules.specs.Limits.{is_too_deep, has_too_many_occurrences, has_too_many_bits, leads_to}
+use Rattle.flatten_rules.specs.Limits.{is_too_deep, has_too_many_occurrences, has_too_many_bits, leads_to}
 use Rattle.edit_rules.specs.Facts.{totals, times, inst_after}
-use Rattle.edit_rules.specs.Outline.{outline, grown_outline}
+use Rattle.edit_rules.specs.inside.Outline.{outline, grown_outline}
 use Rattle.edit_rules.proofs.OrderLemmas.{rise_changed}
 use Rattle.edit_rules.proofs.OutlineLemmas.{grown-changed}
 use Rattle.edit_rules.proofs.AlikeLemmas.{outline-rise, grown-alike, deep-alike, occurrences-alike, bits-alike, leads-alike}

@@ -4,7 +4,7 @@ use Rattle.emh_base.specs.declared.ids.ModId.{ModId}
 use Rattle.emh_base.specs.declared.plain.Conn.{Conn}
 use Rattle.emh_base.specs.declared.plain.PInst.{PInst}
 use Rattle.flatten_rules.specs.Lookup.{module_of, insts_of}
-use Rattle.edit_rules.specs.Outline.{bare_inst}
+use Rattle.edit_rules.specs.inside.Outline.{bare_inst}
 use Rattle.edit_rules.proofs.OutlineLemmas.{walked-none, walked-all, none-of, inst-is, inst-inside, inst-walked, inst-next, first-of}
 use Rattle.edit_rules.proofs.judging.outline.bare_insts.Goals as goal
 

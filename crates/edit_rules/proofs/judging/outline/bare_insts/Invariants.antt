@@ -2,7 +2,7 @@
 use Rattle.std.proofs.Common.{◌≡◌, ◌-◌, length, slice_get, option_map}
 use Rattle.emh_base.specs.declared.plain.PInst.{PInst}
 use Rattle.flatten_rules.specs.Lookup.{module_of, insts_of}
-use Rattle.edit_rules.specs.Outline.{bare_inst}
+use Rattle.edit_rules.specs.inside.Outline.{bare_inst}
 use Rattle.edit_rules.proofs.OutlineLemmas.{Walked}
 use Rattle.edit_rules.proofs.judging.outline.bare_insts.Given as goal
 

@@ -3,7 +3,7 @@ use Rattle.std.proofs.lemmas.List.{length_push}
 use Rattle.emh_base.specs.declared.plain.PNet.{PNet}
 use Rattle.flatten_rules.specs.Lookup.{module_of}
 use Rattle.edit_rules.specs.Readers.{net_in, nets_of}
-use Rattle.edit_rules.specs.Outline.{bare_net}
+use Rattle.edit_rules.specs.inside.Outline.{bare_net}
 use Rattle.edit_rules.proofs.OutlineLemmas.{walked-none, walked-all, none-of, some-map, net-is, net-inside, net-walked, net-next, first-of}
 use Rattle.edit_rules.proofs.judging.outline.bare_nets.Goals as goal
 

@@ -3,7 +3,7 @@ use Rattle.std.proofs.Common.{◌≡◌, ◌-◌, length, slice_get, option_map}
 use Rattle.emh_base.specs.declared.plain.PNet.{PNet}
 use Rattle.flatten_rules.specs.Lookup.{module_of}
 use Rattle.edit_rules.specs.Readers.{nets_of}
-use Rattle.edit_rules.specs.Outline.{bare_net}
+use Rattle.edit_rules.specs.inside.Outline.{bare_net}
 use Rattle.edit_rules.proofs.OutlineLemmas.{Walked}
 use Rattle.edit_rules.proofs.judging.outline.bare_nets.Given as goal
 

@@ -2,7 +2,7 @@ use Rattle.std.proofs.Common.{List, length, slice_get, sym, ap, ◌∙◌, arith
 use Rattle.std.proofs.lemmas.List.{length_push}
 use Rattle.emh_base.specs.declared.plain.PModule.{PModule}
 use Rattle.emh_base.specs.declared.plain.Plain.{Plain}
-use Rattle.edit_rules.specs.Outline.{grown}
+use Rattle.edit_rules.specs.inside.Outline.{grown}
 use Rattle.edit_rules.proofs.OutlineLemmas.{walked-none, walked-all, none-of, module-is, module-inside, module-walked, module-next, first-of}
 use Rattle.edit_rules.proofs.judging.outline.grown_outline.Goals as goal
 

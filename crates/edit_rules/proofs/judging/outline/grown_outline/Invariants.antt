@@ -1,7 +1,7 @@
 -- The first modules stand in the outline, and the next one comes after them.
 use Rattle.std.proofs.Common.{◌≡◌, ◌-◌, length, slice_get, option_map}
 use Rattle.emh_base.specs.declared.plain.PModule.{PModule}
-use Rattle.edit_rules.specs.Outline.{grown}
+use Rattle.edit_rules.specs.inside.Outline.{grown}
 use Rattle.edit_rules.proofs.OutlineLemmas.{Walked}
 use Rattle.edit_rules.proofs.judging.outline.grown_outline.Given as goal
 

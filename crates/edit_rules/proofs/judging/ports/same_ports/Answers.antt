@@ -2,7 +2,7 @@ use Rattle.std.proofs.Common.{◌≡◌, ℕ, ◌<◌, ◌≤◌, true, length, 
 use Rattle.std.proofs.lemmas.Bool.{cases_lt}
 use Rattle.flatten_rules.specs.Lookup.{module_of}
 use Rattle.flatten_rules.specs.Domains.{ports_of}
-use Rattle.edit_rules.specs.Ports.{are_alike_at}
+use Rattle.edit_rules.specs.inside.Ports.{are_alike_at}
 use Rattle.edit_rules.proofs.PortLemmas.{same-yes, same-no}
 use Rattle.edit_rules.proofs.judging.ports.same_ports.Goals as goal
 

@@ -1,9 +1,0 @@
-use Rattle.edit_rules.proofs.LimitLemmas.{within_tests}
-use Rattle.edit_rules.proofs.UnfoldLemmas.{total-unfolded}
-use Rattle.edit_rules.proofs.laws.each_limit_is_tested.Goals as goal
-
-pub returns-clause-tests : goal.returns-clause-tests
-returns-clause-tests c = within_tests
-
-pub returns-clause-counts : goal.returns-clause-counts
-returns-clause-counts c = total-unfolded

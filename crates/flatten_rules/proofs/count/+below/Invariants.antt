@@ -1,0 +1,13 @@
+-- The sum is that of the instances so far.
+use Rattle.std.proofs.Common.{◌≡◌, ◌-◌, min, take, sum_by}
+use Rattle.emh_base.specs.declared.plain.PInst.{PInst}
+use Rattle.flatten_rules.specs.Counting.{total}
+use Rattle.flatten_rules.specs.inside.Levels.{weight_in}
+use Rattle.flatten_rules.proofs.count.+below.Given as goal
+
+abbrev pub decreases-below : goal.decreases-below
+decreases-below g l = l.levels
+
+abbrev pub invariant-loop-inst : goal.invariant-loop-inst
+invariant-loop-inst g l =
+    l.sum ≡ min (sum_by (λ (inst : PInst). total (weight_in (g.X.Measure.weight l.measure) l.plain) l.plain inst.master (l.levels - 1)) (take l.inst-index l.inst-items)) 4000001
