@@ -1,13 +1,9 @@
 pub mod Opened
-pub mod Pins
-pub mod Lines
 pub mod Texts
 pub mod Script
 pub mod Refusal
 pub mod Load
 pub mod Play
 pub mod Causes
-pub mod TwoLevel
-pub mod Way
 pub mod Outcome
 pub mod Law

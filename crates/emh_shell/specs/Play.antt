@@ -3,7 +3,7 @@ use Rattle.std.specs.Fmt.{decimal}
 use Rattle.emh_io.specs.declared.shelf.TheConstants.{FILE_LIMIT}
 use Rattle.emh_io.specs.Files.{Files, held}
 use Rattle.emh_shell.specs.Opened as opened
-use Rattle.emh_shell.specs.Pins.{pins_text}
+use Rattle.reports.specs.Pins.{pins_text}
 use Rattle.emh_shell.specs.Refusal.{refused_line, about_word, read_text}
 use Rattle.emh_shell.specs.Script.{script_of}
 use Rattle.emh_shell.specs.declared.fault.ScriptFault.{ScriptFault}

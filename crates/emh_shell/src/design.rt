@@ -1,11 +1,8 @@
-ghost use Rattle.std.specs.Prelude.{◌≡◌, Some};
-ghost use Rattle.flatten_rules.specs.Lookup.{module_of};
-ghost use Rattle.flatten_rules.specs.Sound.{IsSoundModule};
+ghost use Rattle.std.specs.Prelude.{◌≡◌};
 ghost use Rattle.flatten_rules.specs.Design.{IsGood};
 ghost use Rattle.emh_shell.specs.Opened.{Opened};
 
-use emh_base::{ModId, PModule, Plain};
-use flatten_rules::module_of;
+use emh_base::{ModId, Plain};
 use std::marker::Model;
 
 /// An open design: a sound table that is within the limits at its top, which is no leaf.
@@ -41,14 +38,6 @@ impl Design {
         ensures good { IsGood self.now.plain self.now.top }
     {
         &self.plain
-    }
-
-    /// The top as the table has it.
-    pub fn top_module(&self) -> &PModule
-        ensures found { module_of self.now.plain self.now.top ≡ Some result.now }
-        ensures sound { IsSoundModule self.now.plain result.now }
-    {
-        module_of(&self.plain, self.top).unwrap()
     }
 
     /// The id of the module that the design unfolds from.

@@ -8,12 +8,12 @@ ghost use Rattle.emh_shell.specs.Outcome.{WhereTold, FailsToFetch};
 use crate::command::Command;
 use crate::fault::Halt;
 use crate::load::open_file;
-use crate::pins::report_pins;
 use crate::print::{faulty_line, ok_line, refused_word};
 use crate::reply::LoadReply;
 use crate::stand::Stand;
 use emh_base::{List, Name, NoMemory};
 use emh_io::{FetchFault, Shelf};
+use reports::push_pins;
 use std::alloc::Global;
 
 /// Carries out one command, and gives what it prints.
@@ -110,7 +110,7 @@ fn print_report(alloc: Global, stand: &mut Stand) -> Result<List<u8>, NoMemory>
         }
         Some(design) => {
             let mut said = ok_line(alloc, line)?;
-            said.extend(report_pins(alloc, design)?.as_slice())?;
+            push_pins(alloc, design.plain(), design.top(), &mut said)?;
             Ok(said)
         }
     }

@@ -8,11 +8,11 @@ use Rattle.emh_base.specs.declared.root.Root.{Root}
 use Rattle.emh_base.specs.declared.root.Root.TheVariants.{Tie0, Tie1, Own}
 use Rattle.flatten_rules.specs.Domains.{NetBit, IsBlockNet, is_own, root_of, net_bits, block_nets, EachBlockNet}
 
-both : (a b : Bool) → a && b ≡ true → (a ≡ true) × (b ≡ true)
+pub both : (a b : Bool) → a && b ≡ true → (a ≡ true) × (b ≡ true)
 both true b e = (refl, e)
 both false b e = absurd (true≢false (sym e))
 
-equal : (o : Ordering) → is_eq o ≡ true → o ≡ Equal
+pub equal : (o : Ordering) → is_eq o ≡ true → o ≡ Equal
 equal Equal e = refl
 equal Less e = absurd (true≢false (sym e))
 equal Greater e = absurd (true≢false (sym e))

@@ -24,3 +24,4 @@ pub mod PathOrder
 pub mod Steps
 pub mod Pending
 pub mod Left
+pub mod OwnRoots

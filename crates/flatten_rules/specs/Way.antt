@@ -1,7 +1,8 @@
 -- A way down from the top of a table to an occurrence, and what its net bits lead to, told by how far up the way it is.
 -- This project's own.
-use Rattle.std.specs.Prelude.{ℕ, ◌≤◌, List, reverse, take, length}
+use Rattle.std.specs.Prelude.{ℕ, ◌≤◌, ◌==◌, Bool, false, ◌&&◌, List, reverse, take, length}
 use Rattle.emh_base.specs.declared.ids.ModId.{ModId}
+use Rattle.emh_base.specs.declared.ids.NetId.{NetId}
 use Rattle.emh_base.specs.declared.ids.InstId.{InstId}
 use Rattle.emh_base.specs.declared.plain.Plain.{Plain}
 use Rattle.emh_base.specs.declared.root.Root.{Root}
@@ -34,3 +35,9 @@ abbrev pub IsOn : List InstId → WayRoot → Type 0
 IsOn path Tie0 = Unit {0}
 IsOn path Tie1 = Unit {0}
 IsOn path (Own depth net offset) = depth ≤ length path
+
+-- it is the net bit of that net and offset in the occurrence that so many instances lead to
+abbrev pub is_at : WayRoot → ℕ → NetId → ℕ → Bool
+is_at Tie0 depth net offset = false
+is_at Tie1 depth net offset = false
+is_at (Own above own at) depth net offset = above == depth && own.0 == net.0 && at == offset

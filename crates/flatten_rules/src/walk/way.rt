@@ -3,6 +3,7 @@ ghost use Rattle.emh_base.specs.Text.{spell, index_text, front_text, path_text, 
 ghost use Rattle.flatten_rules.specs.Lookup.{module_of};
 ghost use Rattle.flatten_rules.specs.Unfolding.{module_up, inst_up};
 ghost use Rattle.flatten_rules.specs.Root.{source_above, root_up, root_of_source, pin_root};
+ghost use Rattle.flatten_rules.specs.Domains.{is_own};
 ghost use Rattle.flatten_rules.specs.Texts.{names_up, root_text};
 ghost use Rattle.flatten_rules.specs.Sound.{IsSound, IsSoundModule};
 ghost use Rattle.flatten_rules.specs.Design.{IsGood};
@@ -29,6 +30,24 @@ pub enum WayRoot {
         net: NetId,
         offset: u16,
     },
+}
+
+impl WayRoot {
+    ghost use Rattle.flatten_rules.specs.Way.{is_at};
+
+    /// Whether it is the net bit of that net and offset in the occurrence that so many instances lead to.
+    pub fn is_at(self, depth: usize, net: NetId, offset: u16) -> bool
+        ensures { result ≡ is_at self depth net offset }
+    {
+        match self {
+            WayRoot::Tie0 | WayRoot::Tie1 => false,
+            WayRoot::Own {
+                depth: above,
+                net: own,
+                offset: at,
+            } => above == depth && own.0 == net.0 && at == offset,
+        }
+    }
 }
 
 /// An instance on the way, and what is looked up of it again and again.
@@ -203,6 +222,14 @@ impl<'a> Way<'a> {
             None => None,
             Some(source) => Some(self.root_of_source(depth - 1, source)),
         }
+    }
+
+    /// Whether a net's bit of the occurrence at the end of the way leads no further up.
+    pub fn is_own(&self, net: NetId, offset: u16) -> bool
+        ensures { result ≡ is_own (record { path = self.now.path; net = net; offset = offset })
+            (root_up self.now.plain self.now.top (reverse self.now.path) net offset) }
+    {
+        self.root(net, offset).is_at(self.depth(), net, offset)
     }
 
     /// Goes down to an instance of the module at the end of the way. After want of memory the way is as before.

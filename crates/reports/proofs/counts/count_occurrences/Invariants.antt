@@ -1,0 +1,18 @@
+use Rattle.std.proofs.Common.{◌≡◌, ◌+◌, length}
+use Rattle.std.specs.List.{filter}
+use Rattle.flatten_rules.specs.Lookup.{module_of}
+use Rattle.flatten_rules.specs.Unfolding.{Occurrence, occurrences}
+use Rattle.flatten_rules.specs.Domains.{is_leaf, block_instances}
+use Rattle.reports.proofs.counts.count_occurrences.Given as goal
+
+-- What is counted so far, with what is still to come, is all.
+abbrev pub invariant-loop-walk : goal.invariant-loop-walk
+invariant-loop-walk l = record {
+  plain : l.walk.plain ≡ l.fn.plain;
+  top : l.walk.top ≡ l.fn.top;
+  all : l.all + length l.walk.rest ≡ length (occurrences l.fn.plain l.fn.top);
+  leaves : l.leaves + length (filter (λ (o : Occurrence). is_leaf (module_of l.fn.plain o.1)) l.walk.rest) ≡ length (block_instances l.fn.plain l.fn.top);
+}
+
+abbrev pub decreases-loop-walk : goal.decreases-loop-walk
+decreases-loop-walk l = length l.walk.rest

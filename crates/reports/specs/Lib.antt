@@ -1,0 +1,6 @@
+pub mod Line
+pub mod Pins
+pub mod Counts
+pub mod Occurrences
+pub mod Modules
+pub mod Worked

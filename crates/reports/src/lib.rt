@@ -1,0 +1,10 @@
+//! The reports of a design: each a text of lines that is told by what the design unfolds to.
+#![tactic(auto)]
+
+mod counts;
+mod laws;
+mod pins;
+
+pub use counts::push_counts;
+pub use laws::two_level_reports;
+pub use pins::push_pins;
