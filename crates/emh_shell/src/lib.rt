@@ -1,25 +1,24 @@
-//! The top call: a script over a shelf of files, with all that it prints.
+//! The top call: a script over a shelf of files, with all that it prints and stores.
 #![tactic(auto)]
 
-mod command;
 mod design;
 mod fault;
+mod fetching;
 mod laws;
-mod load;
+mod netlists;
 mod pins;
 mod play;
-mod print;
-mod reply;
+mod printing;
+mod progress;
+mod refusing;
+mod reports;
 mod root_text;
 mod script;
-mod stand;
 mod step;
 mod way;
 
-pub use command::Command;
 pub use design::Design;
-pub use fault::ScriptFault;
+pub use fault::{DesignFault, FileFault};
 pub use laws::{each_session_once, two_level_pins};
 pub use play::run;
-pub use reply::LoadReply;
-pub use stand::Stand;
+pub use progress::Progress;

@@ -21,7 +21,7 @@ push_instance-push_occurrence-requires t c =
       (
         c.requires.places,
         (
-          rw c.in_ok-push-in-Some-2.ensures.items (IsWay-push M top way _ c.args.front.now c.push.new.self c.requires.way c.requires.inst at.0 sound places c.len-above.ensures (c.in_ok-push-in-Some.ensures.ok ∙ ap (λ x. x ++ 47 ∷ []) c.in_ok-push_spelled-in-Some.ensures)),
+          rw c.in_ok-push-in-Some-2.ensures.items (IsWay-push M top way _ c.args.front.now c.push.new.self c.requires.way c.requires.inst at.0 sound places c.len-above.ensures (c.in_ok-push-in-Some.ensures.ok ∙ ap (λ x. x ++ 47 ∷ []) c.in_ok-push_spelled-in-Some.ensures.ok)),
           (
             rw c.in_ok-push-in-Some-2.ensures.items (module_up-push M top way _ c.requires.inst at.0),
             (sound, λ _. omega (arith, c.in_ok-push-in-Some-2.ensures.len)),
