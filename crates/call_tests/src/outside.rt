@@ -63,7 +63,7 @@ fn mem_shelf(alloc: Global) -> Result<MemShelf, Fail> {
     let files = files_of(alloc, TWO_FILES)?;
     let plan = second_fails(alloc)?;
     if are_distinct(files.as_slice()) {
-        Ok(MemShelf::new(alloc, files, plan))
+        Ok(MemShelf::new(alloc, files, plan, second_fails(alloc)?))
     } else {
         Err("files of one name".into())
     }
@@ -121,6 +121,46 @@ fn mem_shelf_fails_at_its_second_fetch(rt: HostRuntime) -> Result<(), Fail> {
     Ok(())
 }
 
+/// Why a store came to nothing, or nothing.
+fn stored<F: Shelf>(
+    alloc: Global,
+    shelf: &mut F,
+    name: &[u8],
+    bytes: &[u8],
+) -> Result<String, Fail> {
+    Ok(match shelf.store(name, bytes) {
+        Ok(()) => String::new(alloc),
+        Err(fault) => format!(in alloc; "{fault:?}")?,
+    })
+}
+
+#[test]
+fn sure_shelf_stores(rt: HostRuntime) -> Result<(), Fail> {
+    let mut shelf = sure_shelf(rt.alloc())?;
+    let cases: [(&[u8], &[u8]); 3] = [(b"empty", b"full"), (b"new", b"one"), (b"new", b"two")];
+    for (name, bytes) in cases {
+        assert_eq!(rt; stored(rt.alloc(), &mut shelf, name, bytes)?.as_str(), "");
+        assert_eq!(rt; shelf.held(name), Some(bytes));
+    }
+    assert_eq!(rt; shelf.held(b"top.v"), Some(b"module".as_slice()));
+    Ok(())
+}
+
+#[test]
+fn mem_shelf_fails_at_its_second_store(rt: HostRuntime) -> Result<(), Fail> {
+    let mut shelf = mem_shelf(rt.alloc())?;
+    let cases: [(&[u8], &str, &[u8]); 3] = [
+        (b"empty", "", b"full"),
+        (b"top.v", "Failed", b"module"),
+        (b"top.v", "", b"full"),
+    ];
+    for (name, fault, held) in cases {
+        assert_eq!(rt; stored(rt.alloc(), &mut shelf, name, b"full")?.as_str(), fault);
+        assert_eq!(rt; shelf.held(name), Some(held));
+    }
+    Ok(())
+}
+
 #[test]
 fn sure_sink_takes_its_most(rt: HostRuntime) -> Result<(), Fail> {
     let mut sink = SureSink::new(rt.alloc(), 4);
@@ -170,6 +210,22 @@ fn file_shelf_fails(rt: HostRuntime) -> Result<(), Fail> {
             "{name:?}"
         );
     }
+    Ok(())
+}
+
+#[test]
+fn file_shelf_reads_what_it_stored(rt: HostRuntime) -> Result<(), Fail> {
+    let path = "emh_io_store.tmp";
+    let mut shelf = FileShelf::new(rt.alloc(), rt.clone()?);
+    let first = stored(rt.alloc(), &mut shelf, path.as_bytes(), b"a longer text");
+    let second = stored(rt.alloc(), &mut shelf, path.as_bytes(), b"module");
+    let read = fetched(rt.alloc(), &mut shelf, path.as_bytes());
+    fs::remove_file(&rt, path)?;
+    assert_eq!(rt; first?.as_str(), "");
+    assert_eq!(rt; second?.as_str(), "");
+    assert_eq!(rt; read?.as_str(), "module");
+    let failed = stored(rt.alloc(), &mut shelf, b".", b"");
+    assert_eq!(rt; failed?.as_str(), "Failed");
     Ok(())
 }
 

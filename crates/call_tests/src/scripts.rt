@@ -49,8 +49,8 @@ fn a_netlist_that_is_cut_off_is_refused(rt: HostRuntime) -> Result<(), Fail> {
             text.as_slice().starts_with(b"refused 1 ".as_slice()),
             "{end}"
         );
-        let unbuilt = text.as_slice() == b"refused 1 40 NotBuilt word f.v\n".as_slice();
-        assert_eq!(rt; unbuilt, ends_outside(&whole[..end]), "{end}");
+        let unnamed = text.as_slice() == b"refused 1 1 NoSuchModule module top\n".as_slice();
+        assert_eq!(rt; unnamed, ends_outside(&whole[..end]), "{end}");
     }
     Ok(())
 }

@@ -33,13 +33,19 @@ is_held files file = are_bytes (held files file.name) file.bytes
 abbrev pub are_held : Files → List Held → Bool
 are_held files after = list_all (is_held files) after
 
--- What a verdict says of the plain session, where a script ran to its end: a case that passed is what that session prints
--- and ends with, and one that differs isn't. No command stores a file yet, so the files after a run are those before it.
+-- some files that the plain session leaves, with that text and that status, are as they were to be
+abbrev pub PlaysTo : Files → List (List ℕ) → List ℕ → ℕ → List Held → Type 0
+PlaysTo files words text status after =
+    (left : Files) × Play (Some files) words text (Some left) status × (are_held left after ≡ true)
+
+-- What a verdict says of the plain session, where a script ran to its end: a case that passed is what that session prints,
+-- leaves and ends with, and one that differs isn't.
 abbrev pub IsTrueOf : Files → List (List ℕ) → List ℕ → ℕ → List Held → Verdict → Type 0
 IsTrueOf files words wanted wanted_status after Passed =
-    (wanted_status < 3 → Play files words wanted wanted_status) × (are_held files after ≡ true)
+    wanted_status < 3 → PlaysTo files words wanted wanted_status after
 IsTrueOf files words wanted wanted_status after (OtherText lines ended) =
-    ended < 3 → Play files words wanted wanted_status → ⊥
+    ended < 3 → PlaysTo files words wanted wanted_status after → ⊥
 IsTrueOf files words wanted wanted_status after (OtherStatus ended) =
-    ended < 3 → Play files words wanted wanted_status → ⊥
-IsTrueOf files words wanted wanted_status after (OtherFiles ended) = are_held files after ≡ false
+    ended < 3 → PlaysTo files words wanted wanted_status after → ⊥
+IsTrueOf files words wanted wanted_status after (OtherFiles ended) =
+    ended < 3 → PlaysTo files words wanted wanted_status after → ⊥

@@ -48,6 +48,7 @@ pub struct Case<'a> {
     most: Option<u32>,
     fails_fetch: u16,
     fails_put: u16,
+    fails_store: u16,
 }
 
 impl<'a> Case<'a> {
@@ -63,6 +64,7 @@ impl<'a> Case<'a> {
             most: None,
             fails_fetch: 0,
             fails_put: 0,
+            fails_store: 0,
         }
     }
 
@@ -74,6 +76,7 @@ impl<'a> Case<'a> {
         self.most = None;
         self.fails_fetch = 0;
         self.fails_put = 0;
+        self.fails_store = 0;
     }
 
     /// Takes a section, and answers the status where it ends the case.
@@ -90,6 +93,7 @@ impl<'a> Case<'a> {
             Head::Takes(most) => self.most = Some(most),
             Head::FailsFetch(number) => self.fails_fetch = number,
             Head::FailsPut(number) => self.fails_put = number,
+            Head::FailsStore(number) => self.fails_store = number,
             Head::Status(status) => return Ok(Some(status)),
         }
         Ok(None)
@@ -127,6 +131,7 @@ impl<'a> Case<'a> {
         Ok(Faults {
             fetches: plan_of(self.alloc, self.fails_fetch)?,
             puts: plan_of(self.alloc, self.fails_put)?,
+            stores: plan_of(self.alloc, self.fails_store)?,
             most: self.most.filter(|most| *most > 0).unwrap_or(4096),
         })
     }

@@ -20,6 +20,8 @@ pub enum Head<'a> {
     FailsFetch(u16),
     /// The number of the put that fails, counted from 1.
     FailsPut(u16),
+    /// The number of the store that fails, counted from 1.
+    FailsStore(u16),
     /// The status, behind which the case ends.
     Status(u8),
 }
@@ -48,6 +50,7 @@ fn read_fails(text: &str) -> Option<Head<'_>> {
     match word {
         "fetch" => Some(Head::FailsFetch(number)),
         "put" => Some(Head::FailsPut(number)),
+        "store" => Some(Head::FailsStore(number)),
         _ => None,
     }
 }

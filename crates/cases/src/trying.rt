@@ -8,12 +8,13 @@ use emh_io::{Held, MemShelf, MemSink};
 use emh_shell::{each_session_once, run};
 use std::alloc::Global;
 
-/// What fails in a run: which fetches and which puts, the first one first, and how many bytes a put
+/// What fails in a run: which fetches, puts and stores, the first one first, and how many bytes a put
 /// takes at most.
 #[derive(Debug, Drop)]
 pub struct Faults {
     pub fetches: List<bool>,
     pub puts: List<bool>,
+    pub stores: List<bool>,
     pub most: u32,
 }
 
@@ -40,7 +41,7 @@ pub fn try_case(
         wanted.now.text.now wanted.now.status wanted.now.files result }
 {
     each_session_once();
-    let mut shelf = MemShelf::new(alloc, files, faults.fetches);
+    let mut shelf = MemShelf::new(alloc, files, faults.fetches, faults.stores);
     let mut out = MemSink::new(alloc, faults.most, faults.puts);
     let status = run(alloc, words, &mut shelf, &mut out);
     match compare(wanted.text, wanted.status, out.bytes(), status) {

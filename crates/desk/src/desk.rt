@@ -61,8 +61,8 @@ impl Desk {
         ensures looks { FaultLooks (open_fault plain (module_named plain top.now)) result }
         ensures ok { IfOk result (λ desk. option_map (opened plain) (top_named plain top.now) ≡ Some desk) }
     {
-        let id = fit(&plain, top)?;
         let alloc = plain.modules.alloc();
+        let id = fit(alloc, &plain, top)?;
         Ok(Desk {
             state: State {
                 plain,

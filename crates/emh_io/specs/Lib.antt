@@ -5,3 +5,6 @@ pub mod Held
 pub mod Plan
 pub mod Put
 pub mod States
+pub mod Store
+pub mod Told
+pub mod PutAll

@@ -1,11 +1,14 @@
 use Rattle.std.specs.Prelude.{ℕ, List, Bool, Option}
 use Rattle.emh_io.specs.Files.{Files}
 
--- a shelf in memory: its files, which of the coming fetches are to fail, how many failed, and the last such name
+-- a shelf in memory: its files, which of the coming fetches and stores are to fail, how many of each failed, and the
+-- name of the last call that did
 pub record ShelfState : Type 0 where
   pub files : Files
   pub coming : List Bool
+  pub coming_stores : List Bool
   pub faults : ℕ
+  pub store_faults : ℕ
   pub failed : Option (List ℕ)
 
 -- a sink in memory: the most bytes of a put, what was written, which of the coming puts are to fail, how many failed
@@ -20,9 +23,11 @@ pub record SureSinkState : Type 0 where
   pub most : ℕ
   pub written : List ℕ
 
--- a shelf of real files: how many fetches failed, how many bytes were read, and the last failed fetch's name
+-- a shelf of real files: how many fetches and how many stores failed, how many bytes were read, and the name of the last
+-- call that failed
 pub record FileShelfState : Type 0 where
   pub faults : ℕ
+  pub store_faults : ℕ
   pub taken : ℕ
   pub failed : Option (List ℕ)
 

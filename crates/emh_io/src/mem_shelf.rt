@@ -1,25 +1,29 @@
-ghost use Rattle.std.specs.Prelude.{◌≡◌, IsTrue, drop};
+ghost use Rattle.std.specs.Prelude.{◌≡◌, IsTrue, drop, Some};
 ghost use Rattle.std.specs.Option.{option_map};
 ghost use Rattle.emh_io.specs.Files.{held};
 ghost use Rattle.emh_io.specs.Fetch.{IsAnswer, fetched, HasCause};
-ghost use Rattle.emh_io.specs.Plan.{next_fails, IsPlanned};
+ghost use Rattle.emh_io.specs.Plan.{next_fails, IsPlanned, IsPlannedStore};
+ghost use Rattle.emh_io.specs.Store.{Stores, StoreHasCause};
 
 use crate::held::Held;
 use crate::plan::Plan;
-use crate::shelf::{FetchFault, Shelf};
+use crate::shelf::{FetchFault, Shelf, StoreFault};
 use crate::sure_shelf::SureShelf;
 use emh_base::List;
 use std::alloc::Global;
 use std::marker::Model;
 
-/// A shelf in memory whose fetches fail where a plan says so.
-/// A clause sees its files, the plan of the coming fetches, how many failed, and the name of the last that did.
+/// A shelf in memory whose fetches and stores fail where a plan says so.
+/// A clause sees its files, the plans of the coming fetches and stores, how many of each failed, and the name of the
+/// last call that did.
 #[derive(Debug, Drop)]
 pub struct MemShelf {
     alloc: Global,
     shelf: SureShelf,
     plan: Plan,
+    store_plan: Plan,
     faults: u64,
+    store_faults: u64,
     failed: Option<List<u8>>,
 }
 
@@ -31,7 +35,9 @@ impl Model for MemShelf {
     ghost view = { λ shelf. record {
       files = shelf.shelf;
       coming = shelf.plan;
+      coming_stores = shelf.store_plan;
       faults = shelf.faults;
+      store_faults = shelf.store_faults;
       failed = shelf.failed;
     } };
 }
@@ -41,19 +47,29 @@ impl MemShelf {
     ghost use Rattle.emh_io.specs.Held.{files_of, are_distinct};
 
     /// A shelf of these files. Their names must differ: `are_distinct` tells.
-    /// The first fetch is to fail where the first item of `fetch_fails` is true, and so on. Past its end none is.
-    pub fn new(alloc: Global, files: List<Held>, fetch_fails: List<bool>) -> MemShelf
+    /// The first fetch is to fail where the first item of `fetch_fails` is true, and so on, and stores by `store_fails`.
+    /// Past the end of a plan none is.
+    pub fn new(
+        alloc: Global,
+        files: List<Held>,
+        fetch_fails: List<bool>,
+        store_fails: List<bool>,
+    ) -> MemShelf
         requires { IsTrue (are_distinct (files_of files)) }
         ensures files { result.files ≡ files_of files }
         ensures coming { result.coming ≡ fetch_fails }
+        ensures coming_stores { result.coming_stores ≡ store_fails }
         ensures faults { result.faults ≡ 0 }
+        ensures store_faults { result.store_faults ≡ 0 }
         ensures failed { result.failed ≡ None }
     {
         MemShelf {
             alloc,
             shelf: SureShelf::new(alloc, files),
             plan: Plan::new(fetch_fails),
+            store_plan: Plan::new(store_fails),
             faults: 0,
+            store_faults: 0,
             failed: None,
         }
     }
@@ -70,21 +86,24 @@ impl MemShelf {
 impl Shelf for MemShelf {
     ghost use Rattle.std.specs.Prelude.{Some};
 
-    ghost holds = { λ shelf. Some shelf.files };
-
-    ghost fetch_faults = { λ shelf. shelf.faults };
-
-    ghost taken = { λ _. 0 };
-
-    ghost failed = { λ shelf. shelf.failed };
+    ghost told = { λ shelf. record {
+      holds = Some shelf.files;
+      fetch_faults = shelf.faults;
+      store_faults = shelf.store_faults;
+      taken = 0;
+      failed = shelf.failed;
+    } };
 
     /// The bytes of a file. A fetch that is to fail copies the name first, and so may answer want of memory instead.
     fn fetch(&mut self, name: &[u8]) -> Result<List<u8>, FetchFault>
         ensures told { IsAnswer (fetched self.old.files name.now) result }
-        ensures cause { HasCause self.old.faults self.new.faults self.old.failed self.new.failed name.now result }
+        ensures cause { HasCause self.old.faults self.new.faults
+            self.old.failed self.new.failed name.now result }
         ensures kept { self.new.files ≡ self.old.files }
+        ensures stores { self.new.store_faults ≡ self.old.store_faults }
 
         ensures planned { IsPlanned (next_fails self.old.coming) result }
+        ensures kept_stores { self.new.coming_stores ≡ self.old.coming_stores }
         ensures later { self.new.coming ≡ drop 1 self.old.coming }
     {
         if self.plan.next() {
@@ -94,5 +113,25 @@ impl Shelf for MemShelf {
             return Err(FetchFault::Failed);
         }
         self.shelf.fetch(name)
+    }
+
+    /// Stores the file. A store that is to fail copies the name first, and so may answer want of memory instead.
+    fn store(&mut self, name: &[u8], bytes: &[u8]) -> Result<(), StoreFault>
+        ensures stores { Stores (Some self.old.files) (Some self.new.files) name.now bytes.now result }
+        ensures cause { StoreHasCause self.old.store_faults self.new.store_faults
+            self.old.failed self.new.failed name.now result }
+        ensures fetches { self.new.faults ≡ self.old.faults }
+
+        ensures planned { IsPlannedStore (next_fails self.old.coming_stores) result }
+        ensures later { self.new.coming_stores ≡ drop 1 self.old.coming_stores }
+        ensures kept { self.new.coming ≡ self.old.coming }
+    {
+        if self.store_plan.next() {
+            let name = List::from_slice(self.alloc, name)?;
+            self.failed = Some(name);
+            self.store_faults = self.store_faults.saturating_add(1);
+            return Err(StoreFault::Failed);
+        }
+        self.shelf.store(name, bytes)
     }
 }

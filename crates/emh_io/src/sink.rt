@@ -23,15 +23,14 @@ impl From<NoMemory> for PutFault {
 /// Where text is written to.
 pub trait Sink {
     ghost use Rattle.emh_io.specs.Put.{Puts, PutHasCause};
+    ghost use Rattle.emh_io.specs.Told.{Printed};
 
-    /// What was written so far, or nothing where the sink doesn't tell it.
-    ghost written: { Self → Option (List ℕ) };
-
-    /// How many puts failed so far. It stands still at its type's end.
-    ghost faults: { Self → ℕ };
+    /// What it tells: what was written so far, or nothing of it, and how many puts failed, which stands still at its
+    /// type's end.
+    ghost told: { Self → Printed };
 
     /// Takes the first bytes of a piece, and answers how many: at least one of a piece that isn't empty.
     fn put(&mut self, piece: &[u8]) -> Result<u32, PutFault>
-        ensures puts { Puts (written self.old) (written self.new) piece.now result }
-        ensures cause { PutHasCause (faults self.old) (faults self.new) result };
+        ensures puts { Puts (told self.old).written (told self.new).written piece.now result }
+        ensures cause { PutHasCause (told self.old).faults (told self.new).faults result };
 }

@@ -2,8 +2,8 @@ ghost use Rattle.std.specs.Prelude.{◌≡◌, IsTrue};
 ghost use Rattle.std.specs.Option.{option_map};
 ghost use Rattle.emh_io.specs.Files.{held};
 
-use crate::held::{Held, bytes_of};
-use crate::shelf::{FILE_LIMIT, FetchFault, Shelf};
+use crate::held::{Held, bytes_of, place_of};
+use crate::shelf::{FILE_LIMIT, FetchFault, Shelf, StoreFault};
 use emh_base::List;
 use std::alloc::Global;
 use std::marker::Model;
@@ -50,13 +50,13 @@ impl SureShelf {
 impl Shelf for SureShelf {
     ghost use Rattle.std.specs.Prelude.{Some, None};
 
-    ghost holds = { λ files. Some files };
-
-    ghost fetch_faults = { λ _. 0 };
-
-    ghost taken = { λ _. 0 };
-
-    ghost failed = { λ _. None };
+    ghost told = { λ files. record {
+      holds = Some files;
+      fetch_faults = 0;
+      store_faults = 0;
+      taken = 0;
+      failed = None;
+    } };
 
     fn fetch(&mut self, name: &[u8]) -> Result<List<u8>, FetchFault> {
         match bytes_of(self.files.as_slice(), name) {
@@ -64,5 +64,18 @@ impl Shelf for SureShelf {
             Some(bytes) if bytes.len() > FILE_LIMIT => Err(FetchFault::TooLong),
             Some(bytes) => Ok(List::from_slice(self.alloc, bytes)?),
         }
+    }
+
+    /// Both the name and the bytes are copied first, so that want of memory changes nothing.
+    fn store(&mut self, name: &[u8], bytes: &[u8]) -> Result<(), StoreFault> {
+        let file = Held {
+            name: List::from_slice(self.alloc, name)?,
+            bytes: List::from_slice(self.alloc, bytes)?,
+        };
+        match place_of(self.files.as_slice(), name) {
+            Some(at) => self.files.set(at, file),
+            None => self.files.push(file)?,
+        }
+        Ok(())
     }
 }

@@ -1,7 +1,9 @@
-pub mod ScriptLemmas
-pub mod GainsLemmas
-pub mod OpenLemmas
+pub mod Lines
 pub mod Playing
-pub mod FetchLemmas
-pub mod OneReading
-pub mod OneSession
+pub mod Starting
+pub mod Completing
+pub mod Giving
+pub mod OneReply
+pub mod OneStep
+pub mod Once
+pub mod OncePlay

@@ -1,66 +1,136 @@
-use Rattle.std.proofs.Common.{◌≡◌, ℕ, ◌+◌, ◌<◌, ◌≤◌, List, [], ◌∷◌, ◌++◌, drop, length, get_or, Option, Some, None, inl, inr, refl, sym, ap, ◌∙◌, append_assoc, append-nil, add-one, drop-cons, if◌then◌else◌, suc, Bool, true, false}
-use Rattle.std.proofs.lemmas.List.{drop_all}
-use Rattle.emh_io.specs.Count.{Rose}
-use Rattle.emh_io.specs.Files.{Files, held}
+use Rattle.std.proofs.Common.{◌≡◌, ℕ, ◌+◌, ◌<◌, ◌≤◌, List, [], ◌∷◌, ◌++◌, take, drop, length, get_or, Some, inl, inr, refl, sym, ap, subst, ◌∙◌, append_assoc, append-nil, add-one, drop-cons, take-add, if◌then◌else◌, suc, Bool, true, false, arith, lit<, Ok, Err}
+use Rattle.std.specs.Prelude.{slice_get}
+use Rattle.std.proofs.lemmas.List.{take_all}
+use Rattle.std.proofs.lemmas.Option.{slice_get-get_or}
 use Rattle.emh_io.specs.Put.{gains}
-use Rattle.emh_shell.specs.declared.command.Command.{Command}
-use Rattle.emh_shell.specs.declared.stand.Stand.{Stand}
-use Rattle.emh_shell.specs.Play.{Fetches, Steps, Plays, start}
-use Rattle.emh_shell.specs.Causes.{CannotFetch}
-use Rattle.emh_shell.proofs.GainsLemmas.{gains-gains, gains-nothing}
+use Rattle.script_read.specs.declared.lines.Line.{Line}
+use Rattle.emh_shell.specs.Progress.{Progress}
+use Rattle.emh_shell.specs.declared.fault.Halt.{Halt}
+use Rattle.emh_shell.specs.declared.fault.Halt.TheVariants.{Fetch, Store, Put, NoMemory}
+use Rattle.emh_shell.specs.Play.{Point, start, Goes, Leads, Reads}
+use Rattle.emh_shell.specs.Steps.{Steps, Fetches, Stores}
+use Rattle.emh_io.specs.PutAll.{Front, PutsAll}
+use Rattle.emh_io.specs.Told.{Shelved, Printed}
+use Rattle.emh_shell.specs.Run.{QuietShelf, Cut}
+use Rattle.emh_shell.specs.inside.Ends.{Ends, LineEnds}
+use Rattle.emh_shell.specs.inside.Halts.{halt_of_put}
+use Rattle.emh_io.specs.declared.sink.PutFault.{PutFault}
+use Rattle.emh_io.specs.declared.sink.PutFault.TheVariants as put_fault
+use Rattle.emh_io.proofs.GainsLemmas.{gains-gains, gains-nothing}
+use Rattle.emh_shell.proofs.Lines.{take_more}
 
--- What was written so far is the text of the commands so far: with the text of those that are left behind it, it is a
--- session's.
-pub record Played (holds : Option Files) (before now : Option (List ℕ)) (s : Stand) (rest commands : List Command) : Type 0 where
-  pub said : List ℕ
-  pub written : now ≡ gains before said
-  pub goes_on : (files : Files) → holds ≡ Some files → (text : List ℕ) (status : ℕ) → Plays files s rest text status → Plays files start commands (said ++ text) status
+-- After k lines of a run: they lead to a point, whose files the shelf holds and whose text is written, and nothing failed.
+pub record Standing (a m : Shelved) (x u : Printed) (lines : List Line) (k : ℕ) (stand : Progress) : Type 0 where
+  pub at : Point
+  pub leads : Leads (start a.holds) (take k lines) at
+  pub files : m.holds ≡ at.files
+  pub stands : stand ≡ at.progress
+  pub text : u.written ≡ gains x.written at.text
+  pub shelf : QuietShelf a m
+  pub sink : u.faults ≡ x.faults
 
-pub Played-start : (holds : Option Files) (before : Option (List ℕ)) (commands : List Command) → Played holds before before start commands commands
-Played-start holds before commands = record {
-  said = [];
-  written = sym (gains-nothing before);
-  goes_on = λ files told text status plays. plays;
+pub Standing-start : (a : Shelved) (x : Printed) (lines : List Line) (stand : Progress) → stand ≡ (start a.holds).progress → Standing a a x x lines 0 stand
+Standing-start a x lines stand fresh = record {
+  at = start a.holds;
+  leads = refl;
+  files = refl;
+  stands = fresh;
+  text = sym (gains-nothing x.written);
+  shelf = (refl, refl);
+  sink = refl;
 }
 
-command-here : (commands : List Command) (i : ℕ) (command : Command) → i < length commands → command ≡ get_or commands i command → drop i commands ≡ command ∷ drop (i + 1) commands
-command-here commands i command within here = rw (add-one, drop-cons commands i command) (ap (λ x. x ∷ drop (suc i) commands) (sym here))
+-- one more line
+Leads-more : (p : Point) (lines : List Line) (q : Point) (line : Line) (r : Point) → Leads p lines q → Goes q line r → Leads p (lines ++ line ∷ []) r
+Leads-more p [] q line r leads goes = (r, subst (λ z. Goes z line r) leads goes, refl)
+Leads-more p (first ∷ lines) q line r leads goes = (leads.0, leads.1, Leads-more leads.0 lines q line r leads.2 goes)
 
--- one more command
-pub Played-step : (holds : Option Files) (before mid new : Option (List ℕ)) (s t : Stand) (i : ℕ) (commands : List Command) (command : Command) (said : List ℕ) → Played holds before mid s (drop i commands) commands → i < length commands → command ≡ get_or commands i command → new ≡ gains mid said → ((files : Files) → holds ≡ Some files → Steps files s command said t) → Played holds before new t (drop (i + 1) commands) commands
-Played-step holds before mid new s t i commands command said had within here more steps = record {
-  said = had.said ++ said;
-  written = more ∙ ap (λ x. gains x said) had.written ∙ gains-gains before had.said said;
-  goes_on = λ files told text status plays.
-      rw (append_assoc had.said said text) (had.goes_on files told (said ++ text) status (rw (command-here commands i command within here) (inr (said, t, text, steps files told, refl, plays))));
+get-here : (lines : List Line) (k : ℕ) (line : Line) → k < length lines → line ≡ get_or lines k line → slice_get lines k ≡ Some line
+get-here lines k line within here = slice_get-get_or lines k line within ∙ ap Some (sym here)
+
+-- where a line leads from there
+Leads-next : (a m n : Shelved) (x u : Printed) (lines : List Line) (k : ℕ) (stand t : Progress) (line : Line) (said : List ℕ) (s : Standing a m x u lines k stand) → k < length lines → line ≡ get_or lines k line → LineEnds line m n stand t (Ok said) → Leads (start a.holds) (take (k + 1) lines) (record { text = s.at.text ++ said; files = n.holds; progress = t })
+Leads-next a m n x u lines k stand t line said s within here ends =
+    let steps : Steps line s.at.files s.at.progress said n.holds t = rw (s.files, s.stands) at ends.0 in
+    rw (take_more lines k line within here)
+    (Leads-more (start a.holds) (take k lines) s.at line (record { text = s.at.text ++ said; files = n.holds; progress = t }) s.leads (record { said = said; steps = steps; text = refl }))
+
+quiet-quiet : (a m n : Shelved) → QuietShelf a m → QuietShelf m n → QuietShelf a n
+quiet-quiet a m n first second = (second.0 ∙ first.0, second.1 ∙ first.1)
+
+pub Standing-more : (a m n : Shelved) (x u v : Printed) (lines : List Line) (k : ℕ) (stand t : Progress) (line : Line) (said : List ℕ) → Standing a m x u lines k stand → k < length lines → line ≡ get_or lines k line → LineEnds line m n stand t (Ok said) → PutsAll said u v (Ok tt) → Standing a n x v lines (k + 1) t
+Standing-more a m n x u v lines k stand t line said s within here ends put = record {
+  at = record { text = s.at.text ++ said; files = n.holds; progress = t };
+  leads = Leads-next a m n x u lines k stand t line said s within here ends;
+  files = refl;
+  stands = refl;
+  text = put.0 ∙ ap (λ z. gains z said) s.text ∙ gains-gains x.written s.at.text said;
+  shelf = quiet-quiet a m n s.shelf ends.1;
+  sink = put.1 ∙ s.sink;
 }
 
--- no command is left
-pub Played-end : (holds : Option Files) (before now : Option (List ℕ)) (s : Stand) (i : ℕ) (commands : List Command) (status : ℕ) → Played holds before now s (drop i commands) commands → length commands ≤ i → status ≡ (if s.refused then 1 else 0) → (files : Files) → holds ≡ Some files → (text : List ℕ) × (now ≡ gains before text) × Plays files start commands text status
-Played-end holds before now s i commands status had over same files told = (
-  had.said,
-  had.written,
-  rw (← append-nil had.said) (had.goes_on files told [] status (rw (drop_all i commands over) (refl, same))),
+-- a line comes to nothing
+pub Ends-line : (a m n : Shelved) (x u : Printed) (lines : List Line) (k : ℕ) (stand t : Progress) (line : Line) (words : List (List ℕ)) (halt : Halt) → Standing a m x u lines k stand → k < length lines → line ≡ get_or lines k line → Reads a.holds words lines → LineEnds line m n stand t (Err halt) → Ends words a n x u (Err halt)
+Ends-line a m n x u lines k stand t line words Fetch s within here reads ends = record {
+  k = k;
+  at = s.at;
+  name = ends.0;
+  next = inr (record { lines = lines; stands = record { reads = reads; within = omega arith; leads = s.leads }; line = line; here = get-here lines k line within here; uses = subst (λ z. Fetches line.command z ends.0) s.stands ends.1 });
+  cause = rw (s.files, s.shelf.0) at ends.2;
+  files = ends.3 ∙ s.files;
+  text = s.text;
+}
+Ends-line a m n x u lines k stand t line words Store s within here reads ends = record {
+  k = k;
+  at = s.at;
+  name = ends.0;
+  next = record { lines = lines; stands = record { reads = reads; within = omega arith; leads = s.leads }; line = line; here = get-here lines k line within here; uses = subst (λ z. Stores line.command z ends.0) s.stands ends.1 };
+  cause = rw (s.files, s.shelf.1) at ends.2;
+  text = s.text;
+}
+Ends-line a m n x u lines k stand t line words Put s within here reads ends = absurd ends
+Ends-line a m n x u lines k stand t line words NoMemory s within here reads ends = record {
+  k = k;
+  front = s.at.text;
+  rest = [];
+  after = inr (lines, s.at, record { reads = reads; within = omega arith; leads = s.leads }, append-nil s.at.text, ends ∙ s.files);
+  text = s.text;
+}
+
+-- a line is carried out, and the front of its text is written
+Cut-line : (a m n : Shelved) (x u v : Printed) (lines : List Line) (k : ℕ) (stand t : Progress) (line : Line) (said : List ℕ) (words : List (List ℕ)) → Standing a m x u lines k stand → k < length lines → line ≡ get_or lines k line → Reads a.holds words lines → LineEnds line m n stand t (Ok said) → Front said u v → Cut words a n x v
+Cut-line a m n x u v lines k stand t line said words s within here reads ends f = record {
+  k = k + 1;
+  front = s.at.text ++ f.front;
+  rest = f.rest;
+  after = inr (
+    lines,
+    record { text = s.at.text ++ said; files = n.holds; progress = t },
+    record { reads = reads; within = omega arith; leads = Leads-next a m n x u lines k stand t line said s within here ends },
+    append_assoc s.at.text f.front f.rest ∙ ap (λ z. s.at.text ++ z) (sym f.parts),
+    refl,
+  );
+  text = f.written ∙ ap (λ z. gains z f.front) s.text ∙ gains-gains x.written s.at.text f.front;
+}
+
+-- the text of a line isn't written whole
+pub Ends-put : (a m n : Shelved) (x u v : Printed) (lines : List Line) (k : ℕ) (stand t : Progress) (line : Line) (said : List ℕ) (words : List (List ℕ)) (fault : PutFault) → Standing a m x u lines k stand → k < length lines → line ≡ get_or lines k line → Reads a.holds words lines → LineEnds line m n stand t (Ok said) → PutsAll said u v (Err fault) → Ends words a n x v (Err (halt_of_put fault))
+Ends-put a m n x u v lines k stand t line said words put_fault.Failed s within here reads ends put = (Cut-line a m n x u v lines k stand t line said words s within here reads ends put.0, rw s.sink at put.1)
+Ends-put a m n x u v lines k stand t line said words put_fault.NoMemory s within here reads ends put = Cut-line a m n x u v lines k stand t line said words s within here reads ends put
+
+few : (refused : Bool) → (if refused then 1 else 0) < 3
+few true = lit< tt
+few false = lit< tt
+
+-- no line is left
+pub Ends-out : (a m : Shelved) (x u : Printed) (lines : List Line) (k : ℕ) (stand : Progress) (words : List (List ℕ)) (status : ℕ) → Standing a m x u lines k stand → length lines ≤ k → Reads a.holds words lines → status ≡ (if stand.has_refused then 1 else 0) → Ends words a m x u (Ok status)
+Ends-out a m x u lines k stand words status s over reads is = (
+  rw is (few stand.has_refused),
+  record {
+    text = s.at.text;
+    plays = inr (inl (s.at, record { lines = lines; reads = reads; leads = rw (take_all k lines over) at s.leads }, refl, s.files, is ∙ ap (λ (z : Progress). if z.has_refused then 1 else 0) s.stands));
+    written = s.text;
+  },
+  s.shelf,
+  s.sink,
 )
-
-absent-here : (holds : Option Files) (files other : Files) (name : List ℕ) → holds ≡ Some files → holds ≡ Some other → held other name ≡ None → held files name ≡ None
-absent-here holds files other name told also absent = let same : files ≡ other = cc in rw same absent
-
--- a shelf that tells its files and didn't fail hasn't the file
-pub absent-from_cause : (holds : Option Files) (before now : ℕ) (failed : Option (List ℕ)) (name : List ℕ) (files : Files) → holds ≡ Some files → (Rose before now → ⊥) → CannotFetch holds before now failed name → held files name ≡ None
-absent-from_cause holds before now failed name files told quiet cause =
-    elim cause [ inl w ↦ absent-here holds files w.0 name told w.1 w.2 | inr w ↦ absurd (quiet w.0) ]
-
--- a command fetches a file that isn't there
-pub Played-stop : (holds : Option Files) (before now : Option (List ℕ)) (s : Stand) (i : ℕ) (commands : List Command) (command : Command) (name : List ℕ) → Played holds before now s (drop i commands) commands → i < length commands → command ≡ get_or commands i command → (files : Files) → holds ≡ Some files → Fetches command name → held files name ≡ None → (text : List ℕ) × (now ≡ gains before text) × Plays files start commands text 3
-Played-stop holds before now s i commands command name had within here files told fetches absent = (
-  had.said,
-  had.written,
-  rw (← append-nil had.said) (had.goes_on files told [] 3 (rw (command-here commands i command within here) (inl (record { name = name; fetches = fetches; absent = absent }, refl, refl)))),
-)
-
-pub status-refused : (refused : Bool) (status : ℕ) → refused ≡ true → status ≡ 1 → status ≡ (if refused then 1 else 0)
-status-refused refused status was is = rw was is
-
-pub status-accepted : (refused : Bool) (status : ℕ) → refused ≡ false → status ≡ 0 → status ≡ (if refused then 1 else 0)
-status-accepted refused status was is = rw was is

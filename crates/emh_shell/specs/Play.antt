@@ -1,112 +1,95 @@
-use Rattle.std.specs.Prelude.{◌≡◌, ℕ, ◌+◌, Bool, true, false, nat_lt, List, [], ◌∷◌, ◌++◌, length, Option, Some, None, ◌⊎◌, if◌then◌else◌, codes, MatchOption, MatchBool, MatchResult}
-use Rattle.std.specs.Fmt.{decimal}
-use Rattle.emh_io.specs.declared.shelf.TheConstants.{FILE_LIMIT}
-use Rattle.emh_io.specs.Files.{Files, held}
-use Rattle.emh_shell.specs.Opened as opened
-use Rattle.reports.specs.Pins.{pins_text}
-use Rattle.emh_shell.specs.Refusal.{refused_line, about_word, read_text}
-use Rattle.emh_shell.specs.Script.{script_of}
-use Rattle.emh_shell.specs.declared.fault.ScriptFault.{ScriptFault}
-use Rattle.emh_shell.specs.declared.fault.ScriptFault.TheVariants.{TooManyLines, BadLine, NoMemory}
-use Rattle.emh_shell.specs.Load.{Loads}
-use Rattle.emh_shell.specs.declared.command.Command.{Command}
-use Rattle.emh_shell.specs.declared.command.Command.TheVariants.{Load, ReportPins}
-use Rattle.emh_shell.specs.declared.reply.LoadReply.{LoadReply}
-use Rattle.emh_shell.specs.declared.reply.LoadReply.TheVariants.{Opened, TooLong, Faulty, NotBuilt}
-use Rattle.emh_shell.specs.declared.stand.Stand.{Stand}
+-- The plain session of a script over files.
+use Rattle.std.specs.Prelude.{◌≡◌, ℕ, ◌≤◌, List, [], ◌∷◌, ◌++◌, length, take, slice_get, Option, Some, Result, Ok, Err, ◌⊎◌, if◌then◌else◌}
+use Rattle.emh_io.specs.Files.{Files}
+use Rattle.emh_io.specs.declared.shelf.FetchFault.TheVariants.{TooLong}
+use Rattle.script_read.specs.declared.command.Command.{Command}
+use Rattle.script_read.specs.declared.lines.Line.{Line}
+use Rattle.script_read.specs.declared.lines.ScriptFault.{ScriptFault}
+use Rattle.emh_shell.specs.Printing.{usage_line, too_long_line}
+use Rattle.emh_shell.specs.Progress.{Progress, at_first}
+use Rattle.emh_shell.specs.Fetching.{Gives, Lacks}
+use Rattle.emh_shell.specs.Steps.{Steps, Fetches}
+use Rattle.emh_shell.specs.Script.{lines_to_run, fault_line}
 
--- `ok LINE`
-abbrev pub ok_line : ℕ → List ℕ
-ok_line line = codes "ok " ++ (decimal line ++ codes "\n")
+-- a point of the session: the text so far, the files, where they are told, and where the script stands
+pub record Point : Type 0 where
+  pub text : List ℕ
+  pub files : Option Files
+  pub progress : Progress
 
-abbrev pub usage_line : List ℕ
-usage_line = codes "usage emhdb [--budget N] SCRIPT\n"
+abbrev pub start : Option Files → Point
+start files = record { text = []; files = files; progress = at_first }
 
--- the next line of the script, after one that was refused or wasn't, with that design open
-abbrev pub went_on : Stand → Option opened.Opened → Bool → Stand
-went_on s design refused = record { design = design; line = s.line + 1; refused = refused }
+-- a line leads from one point to another
+pub record Goes (p : Point) (line : Line) (q : Point) : Type 0 where
+  pub said : List ℕ
+  pub steps : Steps line p.files p.progress said q.files q.progress
+  pub text : q.text ≡ p.text ++ said
 
--- a refused load leaves the open design
-abbrev pub load_text : ℕ → List ℕ → LoadReply → List ℕ
-load_text line file (Opened design) = ok_line line
-load_text line file TooLong = refused_line line (about_word (codes "37 FileTooLong") file)
-load_text line file (Faulty fault) = refused_line line (read_text fault)
-load_text line file NotBuilt = refused_line line (about_word (codes "40 NotBuilt") file)
+-- lines lead from one point to another
+abbrev pub Leads : Point → List Line → Point → Type 0
+Leads p [] q = q ≡ p
+Leads p (line ∷ lines) q = (mid : Point) × Goes p line mid × Leads mid lines q
 
-abbrev pub after_load : Stand → LoadReply → Stand
-after_load s (Opened design) = went_on s (Some design) s.refused
-after_load s TooLong = went_on s s.design true
-after_load s (Faulty fault) = went_on s s.design true
-after_load s NotBuilt = went_on s s.design true
-
-abbrev pub report_text : ℕ → Option opened.Opened → List ℕ
-report_text line None = refused_line line (about_word (codes "27 NoDesign") (codes "report"))
-report_text line (Some design) = ok_line line ++ pins_text design.plain design.top
-
-abbrev pub after_report : Stand → Option opened.Opened → Stand
-after_report s None = went_on s None true
-after_report s (Some design) = went_on s (Some design) s.refused
-
--- a load of a file that is held prints its answer's line
-pub record LoadSteps (files : Files) (s : Stand) (file top said : List ℕ) (t : Stand) : Type 0 where
-  pub bytes : List ℕ
-  pub found : held files file ≡ Some bytes
-  pub reply : LoadReply
-  pub loads : Loads bytes top reply
-  pub text : said ≡ load_text s.line file reply
-  pub stand : t ≡ after_load s reply
-
--- one command of the plain session: what it prints, and where the script stands after it
-abbrev pub Steps : Files → Stand → Command → List ℕ → Stand → Type 0
-Steps files s (Load file top) said t = LoadSteps files s file top said t
-Steps files s ReportPins said t = (said ≡ report_text s.line s.design) × (t ≡ after_report s s.design)
-
--- the name of the file that a command fetches
-abbrev pub Fetches : Command → List ℕ → Type 0
-Fetches (Load file top) name = name ≡ file
-Fetches ReportPins name = ⊥
-
--- a command that fetches a file that isn't held ends the session
-pub record Stops (files : Files) (command : Command) : Type 0 where
+-- the words are the name of a script that the shelf gives, and these are its lines
+pub record Reads (files : Option Files) (words : List (List ℕ)) (lines : List Line) : Type 0 where
   pub name : List ℕ
-  pub fetches : Fetches command name
-  pub absent : held files name ≡ None
+  pub bytes : List ℕ
+  pub named : words ≡ name ∷ []
+  pub gives : Gives files name (Ok bytes)
+  pub read : lines_to_run bytes ≡ Ok lines
 
--- the rest of a session: its text and status
-abbrev pub Plays : Files → Stand → List Command → List ℕ → ℕ → Type 0
-Plays files s [] text status = (text ≡ []) × (status ≡ (if s.refused then 1 else 0))
-Plays files s (command ∷ commands) text status =
-    (Stops files command × (text ≡ []) × (status ≡ 3))
-    ⊎ ((said : List ℕ) × (t : Stand) × (rest : List ℕ)
-    × Steps files s command said t × (text ≡ said ++ rest) × Plays files t commands rest status)
+-- the first k lines of the script lead to that point
+pub record Stands (files : Option Files) (words : List (List ℕ)) (lines : List Line) (k : ℕ) (p : Point) : Type 0 where
+  pub reads : Reads files words lines
+  pub within : k ≤ length lines
+  pub leads : Leads (start files) (take k lines) p
 
--- before the first line no design is open
-abbrev pub start : Stand
-start = record { design = None; line = 1; refused = false }
+-- the line after the first k ones, which lead to that point, does this with that name
+pub record NextLine (Uses : Command → Progress → List ℕ → Type 0) (files : Option Files) (words : List (List ℕ)) (k : ℕ) (p : Point) (name : List ℕ) : Type 0 where
+  pub lines : List Line
+  pub stands : Stands files words lines k p
+  pub line : Line
+  pub here : slice_get lines k ≡ Some line
+  pub uses : Uses line.command p.progress name
 
--- the line that names what is wrong with a script
-abbrev pub fault_line : ScriptFault → List ℕ
-fault_line TooManyLines = codes "script has too many lines\n"
-fault_line (BadLine line) = codes "bad line " ++ (decimal line ++ codes "\n")
-fault_line NoMemory = []
+-- after the first k lines, which lead to that point, a file of that name is fetched: the script or that of line k + 1
+abbrev pub NextFetch : Option Files → List (List ℕ) → ℕ → Point → List ℕ → Type 0
+NextFetch files words k p name =
+    ((words ≡ name ∷ []) × (k ≡ 0) × (p ≡ start files)) ⊎ NextLine Fetches files words k p name
 
--- a script is played line by line, once each of its lines is a command
-abbrev pub PlaysLines : Files → List ℕ → List ℕ → ℕ → Type 0
-PlaysLines files script text status =
-    MatchResult (script_of script)
-    (λ commands. Plays files start commands text status)
-    (λ fault. (text ≡ fault_line fault) × (status ≡ 2))
+-- the script can be fetched, and its bytes are no script
+pub record HasFault (files : Option Files) (name text : List ℕ) : Type 0 where
+  pub bytes : List ℕ
+  pub gives : Gives files name (Ok bytes)
+  pub fault : ScriptFault
+  pub read : lines_to_run bytes ≡ Err fault
+  pub told : text ≡ fault_line fault
 
--- and where it has at most 67,108,864 bytes
-abbrev pub PlaysScript : Files → List ℕ → List ℕ → ℕ → Type 0
-PlaysScript files script text status =
-    MatchBool (nat_lt FILE_LIMIT (length script))
-    ((text ≡ codes "script too long\n") × (status ≡ 2))
-    (PlaysLines files script text status)
+-- why nothing is run, as the one line that is printed says it
+abbrev pub Faulty : Option Files → List (List ℕ) → List ℕ → Type 0
+Faulty files [] text = text ≡ usage_line
+Faulty files (name ∷ []) text =
+    (Gives files name (Err TooLong) × (text ≡ too_long_line)) ⊎ HasFault files name text
+Faulty files (first ∷ second ∷ others) text = text ≡ usage_line
 
--- The plain session of a command line's words over files: its text and its status. The one word is the script's name.
-abbrev pub Play : Files → List (List ℕ) → List ℕ → ℕ → Type 0
-Play files [] text status = (text ≡ usage_line) × (status ≡ 2)
-Play files (name ∷ []) text status =
-    MatchOption (held files name) ((text ≡ []) × (status ≡ 3)) (λ script. PlaysScript files script text status)
-Play files (first ∷ second ∷ others) text status = (text ≡ usage_line) × (status ≡ 2)
+-- the script is played to its end
+pub record PlaysOut (files : Option Files) (words : List (List ℕ)) (p : Point) : Type 0 where
+  pub lines : List Line
+  pub reads : Reads files words lines
+  pub leads : Leads (start files) lines p
+
+-- a file that is fetched isn't held
+pub record PlaysUp (files : Option Files) (words : List (List ℕ)) (p : Point) : Type 0 where
+  pub k : ℕ
+  pub name : List ℕ
+  pub fetch : NextFetch files words k p name
+  pub lacks : Lacks p.files name
+
+-- The plain session of a command line's words over files: its text, the files after it and its status.
+abbrev pub Play : Option Files → List (List ℕ) → List ℕ → Option Files → ℕ → Type 0
+Play files words text after status =
+    ((status ≡ 2) × Faulty files words text × (after ≡ files))
+    ⊎ ((p : Point) × PlaysOut files words p × (text ≡ p.text) × (after ≡ p.files)
+    × (status ≡ (if p.progress.has_refused then 1 else 0)))
+    ⊎ ((p : Point) × PlaysUp files words p × (text ≡ p.text) × (after ≡ p.files) × (status ≡ 3))

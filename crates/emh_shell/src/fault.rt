@@ -1,29 +1,27 @@
 ghost use Rattle.std.specs.Prelude.{◌≡◌};
 
+use edit_rules::OpenFault;
 use emh_base::NoMemory;
+use emh_io::PutFault;
 use thiserror::Error;
+use vlog_elab::ReadFault;
 
-/// The most lines that a script may have. This project's own limit.
-pub const LINE_LIMIT: usize = 1_000_000;
-
-/// Why some bytes are no script.
-#[derive(Clone, Copy, Debug, PartialEq, Eq)]
-pub enum ScriptFault {
-    /// It has more than 1,000,000 lines.
-    TooManyLines,
-    /// The line of this number, counted from 1, is the first that asks for nothing that there is.
-    BadLine { line: u32 },
-    NoMemory,
+/// Why a file has no table.
+#[derive(Debug, Drop)]
+pub enum FileFault {
+    /// It has more than 67,108,864 bytes.
+    TooLong,
+    /// It is no netlist over the library.
+    Reading(ReadFault),
 }
 
-impl From<NoMemory> for ScriptFault {
-    ghost use Rattle.emh_shell.specs.declared.fault.ScriptFault.TheVariants.{NoMemory as no_memory};
-
-    ghost from_gives = { λ _ fault. fault ≡ no_memory };
-
-    fn from(_: NoMemory) -> ScriptFault {
-        ScriptFault::NoMemory
-    }
+/// Why a file has no design at a top.
+#[derive(Debug, Drop)]
+pub enum DesignFault {
+    /// It has no table.
+    File(FileFault),
+    /// Its table isn't opened at the top.
+    Opening(OpenFault),
 }
 
 /// Why a run ends before its script does. The texts are never printed.
@@ -31,6 +29,8 @@ impl From<NoMemory> for ScriptFault {
 pub enum Halt {
     #[error("a file can't be had")]
     Fetch,
+    #[error("a file can't be stored")]
+    Store,
     #[error("the text can't be written")]
     Put,
     #[error("no memory")]
@@ -44,5 +44,18 @@ impl From<NoMemory> for Halt {
 
     fn from(_: NoMemory) -> Halt {
         Halt::NoMemory
+    }
+}
+
+impl From<PutFault> for Halt {
+    ghost use Rattle.emh_shell.specs.inside.Halts.{halt_of_put};
+
+    ghost from_gives = { λ fault halt. halt ≡ halt_of_put fault };
+
+    fn from(fault: PutFault) -> Halt {
+        match fault {
+            PutFault::Failed => Halt::Put,
+            PutFault::NoMemory => Halt::NoMemory,
+        }
     }
 }

@@ -1,22 +1,21 @@
-//! The top call: a script over a shelf of files, with all that it prints.
+//! The top call: a script over a shelf of files, with all that it prints and stores.
 #![tactic(auto)]
 
-mod command;
 mod design;
 mod fault;
+mod fetching;
 mod laws;
-mod load;
+mod netlists;
 mod play;
-mod print;
-mod reply;
+mod printing;
+mod progress;
+mod refusing;
+mod report;
 mod script;
-mod stand;
 mod step;
 
-pub use command::Command;
 pub use design::Design;
-pub use fault::ScriptFault;
+pub use fault::{DesignFault, FileFault};
 pub use laws::each_session_once;
 pub use play::run;
-pub use reply::LoadReply;
-pub use stand::Stand;
+pub use progress::Progress;

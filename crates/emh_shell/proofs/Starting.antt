@@ -1,0 +1,148 @@
+use Rattle.std.proofs.Common.{◌≡◌, ℕ, List, [], ◌∷◌, length, map, get_or, Option, Some, None, inl, inr, refl, sym, ap, subst, ◌∙◌, Bool, true, false, cond, arith, lit<, Ok, Err, IfSome, IfNone}
+use Rattle.std.specs.Prelude.{Result, nat_lt, ◌≤◌}
+use Rattle.std.proofs.lemmas.Bool.{ltb-false}
+use Rattle.emh_io.specs.Files.{Files, held}
+use Rattle.emh_io.specs.Fetch.{within_limit, fetched, IsAnswer, IsUntoldAnswer}
+use Rattle.emh_io.specs.declared.shelf.TheConstants.{FILE_LIMIT}
+use Rattle.emh_io.specs.declared.shelf.FetchFault.TheVariants.{Missing, TooLong}
+use Rattle.emh_shell.specs.declared.fault.Halt.{Halt}
+use Rattle.emh_shell.specs.declared.fault.Halt.TheVariants.{Fetch, Store, Put, NoMemory}
+use Rattle.emh_shell.specs.Printing.{usage_line}
+use Rattle.emh_shell.specs.Fetching.{Gives, Lacks}
+use Rattle.emh_shell.specs.Play.{start, Faulty}
+use Rattle.emh_io.specs.PutAll.{Front, PutsAll}
+use Rattle.emh_io.specs.declared.sink.PutFault.{PutFault}
+use Rattle.emh_io.specs.declared.sink.PutFault.TheVariants as put_fault
+use Rattle.emh_shell.specs.inside.Halts.{halt_of_put}
+use Rattle.emh_io.specs.Told.{Shelved, Printed}
+use Rattle.emh_shell.specs.Run.{QuietShelf, Unfetched, WholeAtFetch, Cut}
+use Rattle.emh_shell.specs.inside.Ends.{Ends, FaultEnds}
+use Rattle.emh_io.proofs.GainsLemmas.{gains-nothing}
+
+-- what a shelf that tells its files, or not, gives of them
+pub Gives-fetched : (holds : Option Files) (name bytes : List ℕ) → IfSome holds (λ files. IsAnswer (fetched files name) (Ok bytes)) → Gives holds name (Ok bytes)
+Gives-fetched None name bytes told = tt
+Gives-fetched (Some files) name bytes told = told
+
+pub Gives-long : (holds : Option Files) (name : List ℕ) → IfSome holds (λ files. IsAnswer (fetched files name) (Err TooLong)) → Gives holds name (Err TooLong)
+Gives-long None name told = tt
+Gives-long (Some files) name told = told
+
+missing-limit : (long : Bool) (bytes : List ℕ) → cond long (Err TooLong) (Ok bytes) ≡ Err Missing → ⊥
+missing-limit true bytes e = let never : TooLong ≡ Missing = cc in cc
+missing-limit false bytes e = let never : Ok bytes ≡ Err Missing = e in cc
+
+missing-none : (content : Option (List ℕ)) → within_limit content ≡ Err Missing → content ≡ None
+missing-none None e = refl
+missing-none (Some bytes) e = absurd (missing-limit (nat_lt FILE_LIMIT (length bytes)) bytes e)
+
+-- only a shelf that tells its files says that one is missing
+pub Lacks-missing : (holds : Option Files) (name : List ℕ) (before now : ℕ) → IfSome holds (λ files. IsAnswer (fetched files name) (Err Missing)) → IfNone holds (IsUntoldAnswer before now (Err Missing)) → Lacks holds name
+Lacks-missing None name before now told untold = absurd untold
+Lacks-missing (Some files) name before now told untold = missing-none (held files name) told
+
+-- memory is wanting before anything is printed
+pub Cut-nothing : (words : List (List ℕ)) (a b : Shelved) (x : Printed) → b.holds ≡ a.holds → Cut words a b x x
+Cut-nothing words a b x kept = record {
+  k = 0;
+  front = [];
+  rest = [];
+  after = inl (refl, inl refl, kept);
+  text = sym (gains-nothing x.written);
+}
+
+-- the script can't be fetched
+pub Whole-script : (name : List ℕ) (a b : Shelved) (x : Printed) → b.holds ≡ a.holds → Unfetched a.holds a b name → WholeAtFetch (name ∷ []) a b x x
+Whole-script name a b x kept cause = record {
+  k = 0;
+  at = start a.holds;
+  name = name;
+  next = inl (refl, refl, refl);
+  cause = cause;
+  files = kept;
+  text = sym (gains-nothing x.written);
+}
+
+Cut-fault : (words : List (List ℕ)) (a b : Shelved) (x y : Printed) (text : List ℕ) → Faulty a.holds words text → b.holds ≡ a.holds → Front text x y → Cut words a b x y
+Cut-fault words a b x y text faulty kept f = record {
+  k = 0;
+  front = f.front;
+  rest = f.rest;
+  after = inl (refl, inr (subst (λ z. Faulty a.holds words z) f.parts faulty), kept);
+  text = f.written;
+}
+
+-- nothing is run
+pub Ends-fault : (words : List (List ℕ)) (a b : Shelved) (x y : Printed) (text : List ℕ) (result : Result ℕ Halt) → Faulty a.holds words text → b.holds ≡ a.holds → QuietShelf a b → FaultEnds text x y result → Ends words a b x y result
+Ends-fault words a b x y text (Ok status) faulty kept quiet ends = (
+  rw ends.0 (lit< tt),
+  record { text = text; plays = inl (ends.0, faulty, kept); written = ends.1 },
+  quiet,
+  ends.2,
+)
+Ends-fault words a b x y text (Err Fetch) faulty kept quiet ends = absurd ends
+Ends-fault words a b x y text (Err Store) faulty kept quiet ends = absurd ends
+Ends-fault words a b x y text (Err Put) faulty kept quiet ends = (Cut-fault words a b x y text faulty kept ends.0, ends.1)
+Ends-fault words a b x y text (Err NoMemory) faulty kept quiet ends = Cut-fault words a b x y text faulty kept ends
+
+-- one word is a script's name, any other number of words isn't
+pub Faulty-words : {X : Type 0} (files : Option Files) (spell : X → List ℕ) (words : List X) → (length words ≡ 1 → ⊥) → Faulty files (map spell words) usage_line
+Faulty-words files spell [] other = refl
+Faulty-words files spell (name ∷ []) other = absurd (other refl)
+Faulty-words files spell (first ∷ second ∷ others) other = refl
+
+pub only-one : {X : Type 0} (spell : X → List ℕ) (xs : List X) (x : X) → length xs ≡ 1 → x ≡ get_or xs 0 x → spell x ∷ [] ≡ map spell xs
+only-one spell [] x one at = absurd (omega (arith, one))
+only-one spell (y ∷ []) x one at = ap (λ z. spell z ∷ []) at
+only-one spell (y ∷ z ∷ zs) x one at = absurd (omega (arith, one))
+
+Cut-after : (words : List (List ℕ)) (a m b : Shelved) (x y : Printed) → m.holds ≡ a.holds → Cut words m b x y → Cut words a b x y
+Cut-after words a m b x y kept c = record { k = c.k; front = c.front; rest = c.rest; after = rw kept at c.after; text = c.text }
+
+-- a call before a run left all that a run begins with
+pub Ends-after : (words : List (List ℕ)) (a m b : Shelved) (x y : Printed) (result : Result ℕ Halt) → m.holds ≡ a.holds → QuietShelf a m → Ends words m b x y result → Ends words a b x y result
+Ends-after words a m b x y (Ok status) kept quiet ends = (
+  ends.0,
+  record { text = ends.1.text; plays = rw kept at ends.1.plays; written = ends.1.written },
+  (ends.2.0 ∙ quiet.0, ends.2.1 ∙ quiet.1),
+  ends.3,
+)
+Ends-after words a m b x y (Err Fetch) kept quiet ends = record {
+  k = ends.k;
+  at = ends.at;
+  name = ends.name;
+  next = rw kept at ends.next;
+  cause = rw quiet.0 at ends.cause;
+  files = ends.files;
+  text = ends.text;
+}
+Ends-after words a m b x y (Err Store) kept quiet ends = record {
+  k = ends.k;
+  at = ends.at;
+  name = ends.name;
+  next = rw kept at ends.next;
+  cause = rw quiet.1 at ends.cause;
+  text = ends.text;
+}
+Ends-after words a m b x y (Err Put) kept quiet ends = (Cut-after words a m b x y kept ends.0, ends.1)
+Ends-after words a m b x y (Err NoMemory) kept quiet ends = Cut-after words a m b x y kept ends
+
+-- a text that says why nothing is run isn't written whole
+pub Fault-put : (text : List ℕ) (x y : Printed) (fault : PutFault) → PutsAll text x y (Err fault) → FaultEnds text x y (Err (halt_of_put fault))
+Fault-put text x y put_fault.Failed put = put
+Fault-put text x y put_fault.NoMemory put = put
+
+short-limit : (long : Bool) (bytes wanted : List ℕ) → long ≡ nat_lt FILE_LIMIT (length bytes) → cond long (Err TooLong) (Ok bytes) ≡ Ok wanted → length wanted ≤ FILE_LIMIT
+short-limit true bytes wanted is e = let never : Err TooLong ≡ Ok wanted = e in absurd (cc)
+short-limit false bytes wanted is e =
+    let same : bytes ≡ wanted = cc in
+    rw (← same) (ltb-false FILE_LIMIT (length bytes) (sym is))
+
+short-held : (content : Option (List ℕ)) (wanted : List ℕ) → within_limit content ≡ Ok wanted → length wanted ≤ FILE_LIMIT
+short-held None wanted e = let never : Err Missing ≡ Ok wanted = e in absurd (cc)
+short-held (Some bytes) wanted e = short-limit (nat_lt FILE_LIMIT (length bytes)) bytes wanted refl e
+
+-- a file that is fetched isn't past the limit, whether the shelf tells its files or not
+pub short-from_fetch : (holds : Option Files) (name bytes : List ℕ) (taken_before taken_now : ℕ) → IfSome holds (λ files. IsAnswer (fetched files name) (Ok bytes)) → IfNone holds (IsUntoldAnswer taken_before taken_now (Ok bytes)) → length bytes ≤ FILE_LIMIT
+short-from_fetch None name bytes taken_before taken_now told untold = untold
+short-from_fetch (Some files) name bytes taken_before taken_now told untold = short-held (held files name) bytes told
