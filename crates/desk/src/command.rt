@@ -21,7 +21,7 @@ impl Desk {
         self.future.reserve(self.past.len() + 1)?;
         self.journal.reserve(1)?;
         let base = self.state.copy()?;
-        let change = apply_plain(&mut self.state, &edit)?;
+        let change = apply_plain(self.state.plain.modules.alloc(), &mut self.state, &edit)?;
         self.journal.push_reserved(change);
         self.base = Some(base);
         self.asked = 1;
@@ -52,7 +52,7 @@ impl Desk {
             });
         }
         self.journal.reserve(1)?;
-        let mut change = apply_plain(&mut self.state, &edit)?;
+        let mut change = apply_plain(self.state.plain.modules.alloc(), &mut self.state, &edit)?;
         change.by = self.speaker;
         self.journal.push_reserved(change);
         Ok(())

@@ -78,7 +78,11 @@ pub fn fetch_design<F: Shelf>(
 }
 
 /// The design of a table at the named top, or why it isn't opened.
-fn open_table(alloc: Global, plain: Plain, top: &Name) -> Result<Result<Design, DesignFault>, NoMemory>
+fn open_table(
+    alloc: Global,
+    plain: Plain,
+    top: &Name,
+) -> Result<Result<Design, DesignFault>, NoMemory>
     requires { IsSound plain }
     ensures { IfOk result (IsDesign plain top.now) }
 {
