@@ -155,7 +155,10 @@ fn mem_shelf_fails_at_its_second_store(rt: HostRuntime) -> Result<(), Fail> {
         (b"top.v", "", b"full"),
     ];
     for (name, fault, held) in cases {
-        assert_eq!(rt; stored(rt.alloc(), &mut shelf, name, b"full")?.as_str(), fault);
+        assert_eq!(rt;
+            stored(rt.alloc(), &mut shelf, name, b"full")?.as_str(),
+            fault
+        );
         assert_eq!(rt; shelf.held(name), Some(held));
     }
     Ok(())

@@ -1,9 +1,10 @@
 //! Tokens of Verilog.
+use emh_base::FILE_LIMIT;
 use samples::texts::repeated;
 use std::alloc::Global;
 use std::str::from_utf8;
 use std::test::Fail;
-use vlog_lex::{FILE_LIMIT, Token, TokenKind, tokens};
+use vlog_lex::{Token, TokenKind, tokens};
 
 /// Bytes as their tokens, each with its span, or as their fault.
 fn shown(alloc: Global, bytes: &[u8]) -> Result<String, Fail> {

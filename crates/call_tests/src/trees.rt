@@ -1,12 +1,12 @@
 //! Trees of the grammar of Verilog.
 mod shown;
 
-use emh_base::List;
+use emh_base::{FILE_LIMIT, List};
 use samples::texts::{COUNTER, repeated};
 use shown::{shown, shown_tokens};
 use std::str::from_utf8;
 use std::test::Fail;
-use vlog_lex::{FILE_LIMIT, Token, TokenKind, Tokens, tokens};
+use vlog_lex::{Token, TokenKind, Tokens, tokens};
 
 /// Sentences with their trees.
 const TREES: &[(&[u8], &str)] = &[

@@ -2,6 +2,7 @@
 #![tactic(auto)]
 
 mod edit;
+mod file;
 mod ids;
 mod laws;
 mod list;
@@ -21,6 +22,7 @@ mod text;
 mod try_copy;
 
 pub use edit::{By, Change, Edit, Need};
+pub use file::FILE_LIMIT;
 pub use ids::{BlockKey, InstId, ModId, NetId, OccKey};
 pub use laws::each_spelled_once;
 pub use list::List;

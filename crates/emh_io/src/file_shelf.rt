@@ -4,8 +4,8 @@ ghost use Rattle.emh_io.specs.Count.{RoseBy};
 ghost use Rattle.emh_io.specs.Store.{StoreHasCause};
 ghost use Rattle.std.specs.Io.KnownBytes.{Appends};
 
-use crate::shelf::{FILE_LIMIT, FetchFault, Shelf, StoreFault};
-use emh_base::List;
+use crate::shelf::{FetchFault, Shelf, StoreFault};
+use emh_base::{FILE_LIMIT, List};
 use std::alloc::Global;
 use std::fs;
 use std::io::{Read, Write};

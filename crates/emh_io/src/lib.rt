@@ -19,7 +19,7 @@ pub use mem_shelf::MemShelf;
 pub use mem_sink::MemSink;
 pub use out_sink::OutSink;
 pub use putting::put_all;
-pub use shelf::{FILE_LIMIT, FetchFault, Shelf, StoreFault};
+pub use shelf::{FetchFault, Shelf, StoreFault};
 pub use sink::{PutFault, Sink};
 pub use sure_shelf::SureShelf;
 pub use sure_sink::SureSink;

@@ -3,9 +3,6 @@ ghost use Rattle.emh_io.specs.Files.{Files};
 
 use emh_base::{List, NoMemory};
 
-/// The most bytes that a file may have: 64 MiB. This project's own limit.
-pub const FILE_LIMIT: usize = 67_108_864;
-
 /// Why a file can't be had.
 #[derive(Clone, Copy, Debug, PartialEq, Eq)]
 pub enum FetchFault {

@@ -3,8 +3,8 @@ ghost use Rattle.std.specs.Option.{option_map};
 ghost use Rattle.emh_io.specs.Files.{held};
 
 use crate::held::{Held, bytes_of, place_of};
-use crate::shelf::{FILE_LIMIT, FetchFault, Shelf, StoreFault};
-use emh_base::List;
+use crate::shelf::{FetchFault, Shelf, StoreFault};
+use emh_base::{FILE_LIMIT, List};
 use std::alloc::Global;
 use std::marker::Model;
 

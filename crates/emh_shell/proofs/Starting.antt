@@ -3,7 +3,7 @@ use Rattle.std.specs.Prelude.{Result, nat_lt, ◌≤◌}
 use Rattle.std.proofs.lemmas.Bool.{ltb-false}
 use Rattle.emh_io.specs.Files.{Files, held}
 use Rattle.emh_io.specs.Fetch.{within_limit, fetched, IsAnswer, IsUntoldAnswer}
-use Rattle.emh_io.specs.declared.shelf.TheConstants.{FILE_LIMIT}
+use Rattle.emh_base.specs.declared.file.TheConstants.{FILE_LIMIT}
 use Rattle.emh_io.specs.declared.shelf.FetchFault.TheVariants.{Missing, TooLong}
 use Rattle.emh_shell.specs.declared.fault.Halt.{Halt}
 use Rattle.emh_shell.specs.declared.fault.Halt.TheVariants.{Fetch, Store, Put, NoMemory}

@@ -1,6 +1,6 @@
 //! Files of a shelf as tables and as designs.
 ghost use Rattle.std.specs.Prelude.{◌≡◌, ◌≤◌, length, IfOk};
-ghost use Rattle.emh_io.specs.declared.shelf.TheConstants.{FILE_LIMIT};
+ghost use Rattle.emh_base.specs.declared.file.TheConstants.{FILE_LIMIT};
 ghost use Rattle.flatten_rules.specs.Sound.{IsSound};
 ghost use Rattle.emh_shell.specs.Fetching.{HasTable, HasDesign};
 ghost use Rattle.emh_shell.specs.inside.Ends.{FetchEnds};

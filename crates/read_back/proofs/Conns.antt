@@ -11,10 +11,10 @@ use Rattle.flatten_rules.specs.Lookup.{net_of, width_of}
 use Rattle.flatten_rules.specs.Sound.{IsSoundModule, FitPorts, FitsPort}
 use Rattle.flatten_rules.proofs.Walks.{some-there}
 use Rattle.vlog_read.specs.declared.tree.TConn.{TConn}
-use Rattle.vlog_elab.specs.declared.face.Port.{Port}
+use Rattle.vlog_elab.specs.declared.interface.Port.{Port}
 use Rattle.vlog_elab.specs.declared.scope.Net.{Net}
 use Rattle.vlog_elab.specs.Named.{Named, named, numbered}
-use Rattle.vlog_elab.specs.Faces.{row_port, row_port_on}
+use Rattle.vlog_elab.specs.Interfaces.{row_port, row_port_on}
 use Rattle.vlog_elab.specs.Table.{conn_of, is_to, conn_to, conns_of}
 use Rattle.vlog_elab.proofs.Each.{pairs_head, pairs_tail}
 use Rattle.named_tables.specs.NamedTable.{net_name, named_conn}

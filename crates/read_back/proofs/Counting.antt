@@ -22,7 +22,7 @@ use Rattle.named_tables.proofs.Names.{bytes_eq-other}
 use Rattle.vlog_write.specs.TreeOf.{module_tree, in_written_order, tree_of}
 use Rattle.read_back.proofs.Modules.{entry, all_ranges}
 use Rattle.read_back.proofs.Nets.{IsNet, ranges-differ, ranges-nets, nets-made}
-use Rattle.read_back.proofs.Rounds.{faces_of, has-faces}
+use Rattle.read_back.proofs.Rounds.{faces_of, has-interfaces}
 use Rattle.read_back.proofs.Rows.{item_of, insts-made}
 use Rattle.read_back.proofs.Written.{few-below, few-modules, written-all}
 
@@ -71,7 +71,7 @@ module _ (M : Plain) (sound : IsSound M) where
 
   countable-module : (m : PModule) → IsSoundModule M m → IsCountable (module_tree M m)
   countable-module m s =
-      let made = ap length (nets-made M m s (faces_of M 0 (in_written_order M)) sound (has-faces M sound (few-modules M sound))) ∙ length-map (all_ranges m) entry in
+      let made = ap length (nets-made M m s (faces_of M 0 (in_written_order M)) sound (has-interfaces M sound (few-modules M sound))) ∙ length-map (all_ranges m) entry in
       let items = ap length (insts-made M m) ∙ length-map m.insts (item_of M m) in (
         omega (arith, made, few-ranges m s, few-below (λ (net : PNet). net.id.0) m.next_net m.nets s.nets_rise s.nets_below, s.net_counter),
         omega (arith, items, few-below (λ (inst : PInst). inst.id.0) m.next_inst m.insts s.insts_rise s.insts_below, s.inst_counter),

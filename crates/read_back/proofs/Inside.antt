@@ -18,15 +18,15 @@ use Rattle.flatten_rules.proofs.Sound.{All-find}
 use Rattle.flatten_rules.proofs.Walks.{some-there, none-there}
 use Rattle.vlog_read.specs.declared.tree.At.{At}
 use Rattle.vlog_elab.specs.declared.fault.ElabKind.TheVariants as kind
-use Rattle.vlog_elab.specs.declared.face.Port.{Port}
+use Rattle.vlog_elab.specs.declared.interface.Port.{Port}
 use Rattle.vlog_elab.specs.declared.said.Said.{Said}
 use Rattle.flatten_rules.specs.Check.{first_broken}
 use Rattle.vlog_elab.specs.Check.{check, check_at}
 use Rattle.vlog_elab.specs.Named.{Named, named, is_there}
-use Rattle.vlog_elab.specs.Faces.{Place, Ranged, Directed, Wired, Placed, range_places, item_places, places, said, ports, row_port, row_port_on}
+use Rattle.vlog_elab.specs.Interfaces.{Place, Ranged, Directed, Wired, Placed, range_places, item_places, places, said, ports, row_port, row_port_on}
 use Rattle.vlog_elab.specs.Declarations.{differs_from_direction, inside_checks}
-use Rattle.vlog_elab.specs.Walk.{Passed}
-use Rattle.vlog_elab.specs.Walks.{header_walk, place_walk, port_walk}
+use Rattle.vlog_elab.specs.inside.Walk.{Passed}
+use Rattle.vlog_elab.specs.inside.Walks.{header_walk, place_walk, port_walk}
 use Rattle.vlog_elab.proofs.Row.{pairs_map}
 use Rattle.vlog_elab.proofs.Walking.{passed-none, passed-then}
 use Rattle.vlog_elab.proofs.Declaring.{ports-give}

@@ -23,17 +23,17 @@ use Rattle.vlog_read.specs.declared.tree.At.{At}
 use Rattle.vlog_read.specs.declared.tree.Span.{Span}
 use Rattle.vlog_read.specs.declared.tree.TConn.{TConn}
 use Rattle.vlog_elab.specs.declared.fault.ElabKind.TheVariants as kind
-use Rattle.vlog_elab.specs.declared.face.Port.{Port}
-use Rattle.vlog_elab.specs.declared.face.Face.{Face}
+use Rattle.vlog_elab.specs.declared.interface.Port.{Port}
+use Rattle.vlog_elab.specs.declared.interface.Interface.{Interface}
 use Rattle.vlog_elab.specs.declared.scope.Net.{Net}
 use Rattle.flatten_rules.specs.Check.{each_after}
 use Rattle.vlog_elab.specs.Check.{check}
 use Rattle.vlog_elab.specs.Named.{Named, named, is_there}
-use Rattle.vlog_elab.specs.Faces.{row_port, row_port_on}
+use Rattle.vlog_elab.specs.Interfaces.{row_port, row_port_on}
 use Rattle.vlog_elab.specs.Steps.{Step, Declares, Places, conn_steps, item_steps, inst_steps}
 use Rattle.vlog_elab.specs.Connections.{port_named, ports_named, is_implied}
-use Rattle.vlog_elab.specs.Walk.{Passed}
-use Rattle.vlog_elab.specs.Walks.{step_walk, with_new}
+use Rattle.vlog_elab.specs.inside.Walk.{Passed}
+use Rattle.vlog_elab.specs.inside.Walks.{step_walk, with_new}
 use Rattle.vlog_elab.proofs.Each.{pairs_head, pairs_tail}
 use Rattle.vlog_elab.proofs.Row.{pairs_map}
 use Rattle.vlog_elab.proofs.Naming.{there-append, there-one}
@@ -103,13 +103,13 @@ wire_range net = (net.name, net.range)
 abbrev pub all_ranges : PModule → List (List ℕ × Option Range)
 all_ranges m = map (port_range m) m.ports ++ map wire_range (wires m)
 
-pub port-steps : (fs : Named Face) (m : PModule) (ports : List PPort) → flat_map (item_steps fs) (map (port_item m) ports) ≡ map declare (map (port_range m) ports)
+pub port-steps : (fs : Named Interface) (m : PModule) (ports : List PPort) → flat_map (item_steps fs) (map (port_item m) ports) ≡ map declare (map (port_range m) ports)
 port-steps fs m [] = refl
 port-steps fs m (port ∷ ports) =
     ap (λ range. Declares (name_at (port_name m port)) range ∷ flat_map (item_steps fs) (map (port_item m) ports)) (span-back (net_range (net_of m port.net)))
     ∙ ap (λ rest. declare (port_range m port) ∷ rest) (port-steps fs m ports)
 
-pub wire-steps : (fs : Named Face) (nets : List PNet) → flat_map (item_steps fs) (map wire_item nets) ≡ map declare (map wire_range nets)
+pub wire-steps : (fs : Named Interface) (nets : List PNet) → flat_map (item_steps fs) (map wire_item nets) ≡ map declare (map wire_range nets)
 wire-steps fs [] = refl
 wire-steps fs (net ∷ nets) =
     ap (λ range. Declares (name_at net.name) range ∷ flat_map (item_steps fs) (map wire_item nets)) (span-back net.range)
@@ -141,9 +141,9 @@ module _ (m : PModule) (ns : Named Net) (is : Named (Unit {0})) (knows : Knows m
       passed-then (conn-passes m ns is knows fports inst before q (row_port master port).1 c (All-head Known port ports known) unmixed new.0 has)
       (conns-pass (before ++ tree ∷ []) ports conns (All-tail Known port ports known) unmixed_more (subst New named_more new.1) fits.1 (All-tail There port ports there))
 
--- What is known of the modules: each master has a face with its ports.
-pub record HasFaces (M : Plain) (fs : Named Face) : Type 0 where
-  pub at : (id : ModId) (master : PModule) → module_of M id ≡ Some master → (face : Face) × (named fs master.name ≡ Some face) × (face.ports ≡ map (row_port master) master.ports)
+-- What is known of the modules: each master has a interface with its ports.
+pub record HasFaces (M : Plain) (fs : Named Interface) : Type 0 where
+  pub at : (id : ModId) (master : PModule) → module_of M id ≡ Some master → (interface : Interface) × (named fs master.name ≡ Some interface) × (interface.ports ≡ map (row_port master) master.ports)
 
 ports-known : (M : Plain) (master : PModule) → IsSoundModule M master → All (λ (port : PPort). named (map (row_port master) master.ports) (port_name master port) ≡ Some (row_port master port).1) master.ports
 ports-known M master s k d within =
@@ -161,29 +161,29 @@ all-nothing f xs k d within = refl
 abbrev pub inst_key : PInst → List ℕ × Unit {0}
 inst_key inst = (inst.name, tt)
 
-module _ (M : Plain) (sound : IsSound M) (fs : Named Face) (faces : HasFaces M fs) (m : PModule) (ns : Named Net) where
+module _ (M : Plain) (sound : IsSound M) (fs : Named Interface) (interfaces : HasFaces M fs) (m : PModule) (ns : Named Net) where
   inst-passes : (is : Named (Unit {0})) (inst : PInst) → HasMaster M m inst → Knows m ns (is ++ inst_key inst ∷ []) → is_there ns inst.name ≡ false → is_there is inst.name ≡ false
       → Passed step_walk (record { nets = ns; insts = is }) (item_steps fs (inst_item M m inst)) (record { nets = ns; insts = is ++ inst_key inst ∷ [] })
   inst-passes is inst has knows no_net no_inst =
       let there = some-there (module_of M inst.master) (master-there M m inst has) in
       let master : PModule = there.0 in
       let s : IsSoundModule M master = sound-module M inst.master master sound there.1 in
-      let face = faces.at inst.master master there.1 in
+      let interface = interfaces.at inst.master master there.1 in
       let fits : FitPorts m master master.ports inst.conns = subst (λ (o : Option PModule). MatchOption o ⊥ (λ x. FitPorts m x x.ports inst.conns)) there.1 has in
       let At : Option PModule → Type 0 = λ o. Passed step_walk (record { nets = ns; insts = is })
       (inst_steps (named fs (module_name o)) (name_at (module_name o)) (record { name = name_at inst.name; conns = inst_conns m o inst.conns }) ++ []) (record { nets = ns; insts = is ++ inst_key inst ∷ [] }) in
-      let Of : Option Face → Type 0 = λ o. Passed step_walk (record { nets = ns; insts = is })
+      let Of : Option Interface → Type 0 = λ o. Passed step_walk (record { nets = ns; insts = is })
       (inst_steps o (name_at master.name) (record { name = name_at inst.name; conns = conn_trees m master master.ports inst.conns }) ++ []) (record { nets = ns; insts = is ++ inst_key inst ∷ [] }) in
-      subst At (sym there.1) (subst Of (sym face.1)
+      subst At (sym there.1) (subst Of (sym interface.1)
       (subst (λ xs. Passed step_walk (record { nets = ns; insts = is }) xs (record { nets = ns; insts = is ++ inst_key inst ∷ [] }))
-      (sym (append-nil (inst_steps (Some face.0) (name_at master.name) (record { name = name_at inst.name; conns = conn_trees m master master.ports inst.conns }))))
+      (sym (append-nil (inst_steps (Some interface.0) (name_at master.name) (record { name = name_at inst.name; conns = conn_trees m master master.ports inst.conns }))))
       (passed-cons step_walk (record { nets = ns; insts = is }) (record { nets = ns; insts = is ++ inst_key inst ∷ [] }) (record { nets = ns; insts = is ++ inst_key inst ∷ [] })
-      (Places (Some face.0) (name_at master.name) (name_at inst.name)) (each_after (conn_steps face.0.ports (name_at inst.name)) [] (conn_trees m master master.ports inst.conns))
+      (Places (Some interface.0) (name_at master.name) (name_at inst.name)) (each_after (conn_steps interface.0.ports (name_at inst.name)) [] (conn_trees m master master.ports inst.conns))
       (clear2 (check kind.UnknownModule (name_at master.name) false) (check kind.NameTaken (name_at inst.name) (is_there ns inst.name || is_there is inst.name)) refl
       (ap (λ b. b || is_there is inst.name) no_net ∙ no_inst))
       refl
-      (conns-pass m ns (is ++ inst_key inst ∷ []) knows master face.0.ports (name_at inst.name) [] master.ports inst.conns
-      (subst (λ (ports : Named Port). All (λ (port : PPort). named ports (port_name master port) ≡ Some (row_port master port).1) master.ports) (sym face.2) (ports-known M master s))
+      (conns-pass m ns (is ++ inst_key inst ∷ []) knows master interface.0.ports (name_at inst.name) [] master.ports inst.conns
+      (subst (λ (ports : Named Port). All (λ (port : PPort). named ports (port_name master port) ≡ Some (row_port master port).1) master.ports) (sym interface.2) (ports-known M master s))
       refl
       (fresh-from [] (map (λ (port : PPort). (port_name master port, tt)) master.ports) (all-nothing (λ (port : PPort). (port_name master port, tt)) master.ports)
       (pairs_map (λ (a b : List ℕ × Unit {0}). a.0 ≢ b.0) (λ (port : PPort). (port_name master port, tt)) master.ports (ports-differ M master s)))

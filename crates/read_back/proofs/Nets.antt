@@ -17,7 +17,7 @@ use Rattle.emh_base.specs.declared.plain.Plain.{Plain}
 use Rattle.flatten_rules.specs.Lookup.{net_of, port_of}
 use Rattle.flatten_rules.specs.Sound.{IsSound, IsSoundModule}
 use Rattle.flatten_rules.proofs.Walks.{some-there, find-own, find-passes, id-of_net}
-use Rattle.vlog_elab.specs.declared.face.Face.{Face}
+use Rattle.vlog_elab.specs.declared.interface.Interface.{Interface}
 use Rattle.vlog_elab.specs.declared.scope.Net.{Net}
 use Rattle.vlog_elab.specs.declared.scope.Scope.{Scope}
 use Rattle.flatten_rules.specs.Check.{first_broken}
@@ -25,8 +25,8 @@ use Rattle.vlog_elab.specs.Named.{Named, named, is_there}
 use Rattle.vlog_elab.specs.Steps.{Step, item_steps, steps}
 use Rattle.vlog_elab.specs.Connections.{inner_checks}
 use Rattle.vlog_elab.specs.Table.{nets}
-use Rattle.vlog_elab.specs.Walk.{Passed}
-use Rattle.vlog_elab.specs.Walks.{step_walk}
+use Rattle.vlog_elab.specs.inside.Walk.{Passed}
+use Rattle.vlog_elab.specs.inside.Walks.{step_walk}
 use Rattle.vlog_elab.proofs.Each.{pairs_none, pairs_cons, pairs_head, pairs_tail, pairs_append}
 use Rattle.vlog_elab.proofs.Row.{pairs_map}
 use Rattle.vlog_elab.proofs.Walking.{passed-then}
@@ -179,8 +179,8 @@ module _ (M : Plain) (m : PModule) (s : IsSoundModule M m) where
       λ same. net-apart n.id n.net n.at l e within (sym (ap (λ (r : List ℕ × Option Range). r.0) n.is) ∙ same)))
 
   -- the second round goes through the module
-  pub steps-pass : (fs : Named Face) → IsSound M → HasFaces M fs → Passed step_walk (record { nets = []; insts = [] }) (steps fs (module_tree M m)) (record { nets = map entry (all_ranges m); insts = map inst_key m.insts })
-  steps-pass fs sound faces =
+  pub steps-pass : (fs : Named Interface) → IsSound M → HasFaces M fs → Passed step_walk (record { nets = []; insts = [] }) (steps fs (module_tree M m)) (record { nets = map entry (all_ranges m); insts = map inst_key m.insts })
+  steps-pass fs sound interfaces =
       let ns : Named Net = map entry (all_ranges m) in
       let parts : flat_map (item_steps fs) (map (port_item m) m.ports ++ (map wire_item (wires m) ++ map (inst_item M m) m.insts)) ≡ map declare (all_ranges m) ++ flat_map (item_steps fs) (map (inst_item M m) m.insts) =
       flat_map-append (item_steps fs) (map (port_item m) m.ports) (map wire_item (wires m) ++ map (inst_item M m) m.insts)
@@ -191,14 +191,14 @@ module _ (M : Plain) (m : PModule) (s : IsSoundModule M m) where
       ∙ ap (λ xs. xs ++ flat_map (item_steps fs) (map (inst_item M m) m.insts)) (sym (map-append declare (map (port_range m) m.ports) (map wire_range (wires m)))) in
       let declared = declares-pass [] (all_ranges m) (fresh-from [] ns (λ k d within. refl) (pairs_map (λ (a b : List ℕ × Net). a.0 ≢ b.0) entry (all_ranges m) ranges-differ)) in
       let knows : Knows m ns [] = record { declared = range-known; apart = λ id net at. refl } in
-      let met = insts-pass M sound fs faces m ns [] m.insts s.masters knows
+      let met = insts-pass M sound fs interfaces m ns [] m.insts s.masters knows
       (fresh-from [] (map inst_key m.insts) (λ k d within. refl) (pairs_map (λ (a b : List ℕ × Unit {0}). a.0 ≢ b.0) inst_key m.insts insts-differ))
       no-net net-apart in
       subst (λ (xs : List Step). Passed step_walk (record { nets = []; insts = [] }) xs (record { nets = ns; insts = map inst_key m.insts })) (sym parts) (passed-then declared met)
 
-  pub inner-none : (fs : Named Face) → IsSound M → HasFaces M fs → first_broken (inner_checks fs (module_tree M m)) ≡ None
-  inner-none fs sound faces = inner_checks-walk fs (module_tree M m) ∙ (steps-pass fs sound faces).none
+  pub inner-none : (fs : Named Interface) → IsSound M → HasFaces M fs → first_broken (inner_checks fs (module_tree M m)) ≡ None
+  inner-none fs sound interfaces = inner_checks-walk fs (module_tree M m) ∙ (steps-pass fs sound interfaces).none
 
   -- and these are its nets
-  pub nets-made : (fs : Named Face) → IsSound M → HasFaces M fs → nets (module_tree M m) ≡ map entry (all_ranges m)
-  nets-made fs sound faces = sym (ap (λ (s : Scope). s.nets) ((steps-pass fs sound faces).end ∙ at_last fs (module_tree M m)))
+  pub nets-made : (fs : Named Interface) → IsSound M → HasFaces M fs → nets (module_tree M m) ≡ map entry (all_ranges m)
+  nets-made fs sound interfaces = sym (ap (λ (s : Scope). s.nets) ((steps-pass fs sound interfaces).end ∙ at_last fs (module_tree M m)))

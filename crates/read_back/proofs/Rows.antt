@@ -19,11 +19,11 @@ use Rattle.flatten_rules.proofs.Walks.{some-there, find-own, find-passes}
 use Rattle.vlog_read.specs.declared.tree.At.{At}
 use Rattle.vlog_read.specs.declared.tree.TInst.{TInst}
 use Rattle.vlog_read.specs.declared.tree.TModule.{TModule}
-use Rattle.vlog_elab.specs.declared.face.Face.{Face}
-use Rattle.vlog_elab.specs.declared.face.Port.{Port}
+use Rattle.vlog_elab.specs.declared.interface.Interface.{Interface}
+use Rattle.vlog_elab.specs.declared.interface.Port.{Port}
 use Rattle.vlog_elab.specs.declared.scope.Net.{Net}
 use Rattle.vlog_elab.specs.Named.{Named, named, is_there, numbered}
-use Rattle.vlog_elab.specs.Faces.{ports, row_port}
+use Rattle.vlog_elab.specs.Interfaces.{ports, row_port}
 use Rattle.vlog_elab.specs.Steps.{ports_of}
 use Rattle.vlog_elab.specs.Table.{nets, net_id, insts_in, insts, master_id, conns_of, inst_row, net_row, port_row, row}
 use Rattle.vlog_elab.proofs.Row.{net_by_name}
@@ -36,7 +36,7 @@ use Rattle.read_back.proofs.Conns.{conns-back}
 use Rattle.read_back.proofs.Modules.{entry, all_ranges}
 use Rattle.read_back.proofs.Nets.{absent, ranges-nets, range-known, nets-made}
 use Rattle.read_back.proofs.Inside.{dir_entry, inside-none}
-use Rattle.read_back.proofs.Rounds.{faces_of, has-faces}
+use Rattle.read_back.proofs.Rounds.{faces_of, has-interfaces}
 
 turned : (a b : List ℕ) → bytes_eq a b ≡ bytes_eq b a
 turned a b = nat_list_eq_equiv.symm a b
@@ -85,11 +85,11 @@ insts-made M m =
     each (i ∷ is) = ap (λ xs. item_of M m i ∷ xs) (each is)
 
 -- what the table that is made has of a master
-pub record HasRows (M : Plain) (fs : Named Face) (B : Plain) : Type 0 where
-  pub at : (id : ModId) (master : PModule) → module_of M id ≡ Some master → (face : Face) × (named fs master.name ≡ Some face) × (face.ports ≡ map (row_port master) master.ports) × (module_name (module_of B face.id) ≡ master.name)
+pub record HasRows (M : Plain) (fs : Named Interface) (B : Plain) : Type 0 where
+  pub at : (id : ModId) (master : PModule) → module_of M id ≡ Some master → (interface : Interface) × (named fs master.name ≡ Some interface) × (interface.ports ≡ map (row_port master) master.ports) × (module_name (module_of B interface.id) ≡ master.name)
 
 module _ (M : Plain) (sound : IsSound M) (few : length M.modules ≤ 4294967295) (B : Plain) (rows : HasRows M (faces_of M 0 (in_written_order M)) B) (m : PModule) (s : IsSoundModule M m) (k : ℕ) where
-  abbrev fs : Named Face
+  abbrev fs : Named Interface
   fs = faces_of M 0 (in_written_order M)
 
   abbrev tm : TModule
@@ -99,7 +99,7 @@ module _ (M : Plain) (sound : IsSound M) (few : length M.modules ≤ 4294967295)
   R = row (faces_of M 0 (in_written_order M)) false k (module_tree M m)
 
   made : nets (module_tree M m) ≡ map entry (all_ranges m)
-  made = nets-made M m s (faces_of M 0 (in_written_order M)) sound (has-faces M sound few)
+  made = nets-made M m s (faces_of M 0 (in_written_order M)) sound (has-interfaces M sound few)
 
   found : (id : NetId) (net : PNet) → net_of m id ≡ Some net → named (nets (module_tree M m)) net.name ≡ Some (record { range = net.range; implied = false })
   found id net at = ap (λ (ns : Named Net). named ns net.name) made ∙ range-known M m s id net at
@@ -151,14 +151,14 @@ module _ (M : Plain) (sound : IsSound M) (few : length M.modules ≤ 4294967295)
   inst-back n inst has =
       let there = some-there (module_of M inst.master) (master-there M m inst has) in
       let x : PModule = there.0 in
-      let face = rows.at inst.master x there.1 in
+      let interface = rows.at inst.master x there.1 in
       let fits : FitPorts m x x.ports inst.conns = subst (λ (o : Option PModule). MatchOption o ⊥ (λ y. FitPorts m y y.ports inst.conns)) there.1 has in
       let name : module_name (module_of B (master_id (named fs (module_name (module_of M inst.master))))) ≡ module_name (module_of M inst.master) =
-      ap (λ o. module_name (module_of B (master_id (named fs (module_name o))))) there.1 ∙ ap (λ o. module_name (module_of B (master_id o))) face.1 ∙ face.3 ∙ sym (ap module_name there.1) in
+      ap (λ o. module_name (module_of B (master_id (named fs (module_name o))))) there.1 ∙ ap (λ o. module_name (module_of B (master_id o))) interface.1 ∙ interface.3 ∙ sym (ap module_name there.1) in
       let conns : map (named_conn R) (conns_of (nets (module_tree M m)) (ports_of (named fs (module_name (module_of M inst.master)))) (inst_conns m (module_of M inst.master) inst.conns)) ≡ map (named_conn m) inst.conns =
       ap (λ o. map (named_conn R) (conns_of (nets (module_tree M m)) (ports_of (named fs (module_name o))) (inst_conns m o inst.conns))) there.1
-      ∙ ap (λ o. map (named_conn R) (conns_of (nets (module_tree M m)) (ports_of o) (inst_conns m (Some x) inst.conns))) face.1
-      ∙ ap (λ (ps : Named Port). map (named_conn R) (conns_of (nets (module_tree M m)) ps (inst_conns m (Some x) inst.conns))) face.2
+      ∙ ap (λ o. map (named_conn R) (conns_of (nets (module_tree M m)) (ports_of o) (inst_conns m (Some x) inst.conns))) interface.1
+      ∙ ap (λ (ps : Named Port). map (named_conn R) (conns_of (nets (module_tree M m)) ps (inst_conns m (Some x) inst.conns))) interface.2
       ∙ conns-back M m x (nets (module_tree M m)) R inst.conns keeps (sound-module M inst.master x sound there.1) fits in
       λ i. record { name = inst.name; master = name i; conns = conns i }
 

@@ -23,7 +23,7 @@ use Rattle.vlog_read.specs.declared.tree.At.{At}
 use Rattle.vlog_read.specs.declared.tree.Part.{Part}
 use Rattle.vlog_read.specs.declared.tree.Part.TheVariants.{Name, Bit, Lit}
 use Rattle.vlog_read.specs.declared.tree.TConn.{TConn}
-use Rattle.vlog_elab.specs.declared.face.Port.{Port}
+use Rattle.vlog_elab.specs.declared.interface.Port.{Port}
 use Rattle.vlog_elab.specs.declared.scope.Net.{Net}
 use Rattle.vlog_elab.specs.declared.scope.Scope.{Scope}
 use Rattle.vlog_elab.specs.declared.fault.ElabKind.TheVariants as kind
@@ -32,8 +32,8 @@ use Rattle.vlog_elab.specs.Check.{Check, check, check_at}
 use Rattle.vlog_elab.specs.Named.{Named, named, is_there, place_of}
 use Rattle.vlog_elab.specs.Steps.{Connects, Uses, Fits, conn_steps}
 use Rattle.vlog_elab.specs.Connections.{net_range as met_range, ports_named, mixes, has_index, part_width, port_at, width_checks}
-use Rattle.vlog_elab.specs.Walk.{Walk, Passed, first_fault, at_end}
-use Rattle.vlog_elab.specs.Walks.{step_walk, with_new}
+use Rattle.vlog_elab.specs.inside.Walk.{Walk, Passed, first_fault, at_end}
+use Rattle.vlog_elab.specs.inside.Walks.{step_walk, with_new}
 use Rattle.vlog_elab.proofs.Naming.{value-at}
 use Rattle.vlog_elab.proofs.Walking.{passed-none, passed-then}
 use Rattle.named_tables.specs.NamedTable.{net_name, net_range}

@@ -14,11 +14,11 @@ use Rattle.flatten_rules.specs.Sound.{IsSound, IsSoundModule}
 use Rattle.flatten_rules.specs.Design.{module_named}
 use Rattle.flatten_rules.proofs.Walks.{find-passes, find-own}
 use Rattle.vlog_read.specs.declared.tree.TModule.{TModule}
-use Rattle.vlog_elab.specs.declared.face.Face.{Face}
-use Rattle.vlog_elab.specs.declared.face.Known.{Known}
+use Rattle.vlog_elab.specs.declared.interface.Interface.{Interface}
+use Rattle.vlog_elab.specs.declared.interface.Known.{Known}
 use Rattle.flatten_rules.specs.Check.{each_after}
 use Rattle.vlog_elab.specs.Named.{Named, named, numbered}
-use Rattle.vlog_elab.specs.Faces.{face, has_module, added, faces}
+use Rattle.vlog_elab.specs.Interfaces.{interface, has_module, added, interfaces}
 use Rattle.vlog_elab.specs.Table.{row, built}
 use Rattle.vlog_elab.specs.Elaboration.{Elaborates}
 use Rattle.vlog_elab.proofs.Each.{pairs_head, pairs_tail}
@@ -27,7 +27,7 @@ use Rattle.named_tables.specs.NamedTable.{module_name, named_module, named_table
 use Rattle.named_tables.proofs.Names.{found-at, bytes_eq-refl, bytes_eq-other}
 use Rattle.vlog_write.specs.TreeOf.{module_tree, in_written_order, tree_of}
 use Rattle.read_back.proofs.Written.{written-all, written-from, written-has, written-differ, few-modules}
-use Rattle.read_back.proofs.Rounds.{faces_of, face-at, has-faces, rounds-none}
+use Rattle.read_back.proofs.Rounds.{faces_of, interface-at, has-interfaces, rounds-none}
 use Rattle.read_back.proofs.Rows.{HasRows, row-back}
 use Rattle.named_tables.specs.Law.{IsSoundButCycles}
 use Rattle.named_tables.proofs.Cycles.{Twin, cycle-back}
@@ -57,7 +57,7 @@ module _ (M : Plain) (sound : IsSound M) (few : length M.modules ≤ 4294967295)
   abbrev ms : List PModule
   ms = in_written_order M
 
-  abbrev FS : Named Face
+  abbrev FS : Named Interface
   FS = faces_of M 0 (in_written_order M)
 
   abbrev B : Plain
@@ -69,15 +69,15 @@ module _ (M : Plain) (sound : IsSound M) (few : length M.modules ≤ 4294967295)
   differ : AllPairs (λ (a b : PModule). a.name ≢ b.name) (in_written_order M)
   differ = written-differ M sound
 
-  raw : (built no_modules false (tree_of M)).modules ≡ numbered (row (faces no_modules false (map (module_tree M) (in_written_order M))) false) 0 (added no_modules (map (module_tree M) (in_written_order M)))
+  raw : (built no_modules false (tree_of M)).modules ≡ numbered (row (interfaces no_modules false (map (module_tree M) (in_written_order M))) false) 0 (added no_modules (map (module_tree M) (in_written_order M)))
   unfolding built tree_of
   raw = refl
 
   made : (built no_modules false (tree_of M)).modules ≡ numbered (row (faces_of M 0 (in_written_order M)) false) 0 (map (module_tree M) (in_written_order M))
   made =
-      let fs : faces no_modules false (map (module_tree M) (in_written_order M)) ≡ faces_of M 0 (in_written_order M) = sym (ap (λ (k : Known). k.faces) (rounds-none M sound few).1) in
+      let fs : interfaces no_modules false (map (module_tree M) (in_written_order M)) ≡ faces_of M 0 (in_written_order M) = sym (ap (λ (k : Known). k.interfaces) (rounds-none M sound few).1) in
       let new : added no_modules (map (module_tree M) (in_written_order M)) ≡ map (module_tree M) (in_written_order M) = added-from M [] (in_written_order M) (λ k d within. refl) differ in
-      raw ∙ ap (λ (fs : Named Face). numbered (row fs false) 0 (added no_modules (map (module_tree M) (in_written_order M)))) fs
+      raw ∙ ap (λ (fs : Named Interface). numbered (row fs false) 0 (added no_modules (map (module_tree M) (in_written_order M)))) fs
       ∙ ap (λ (xs : List TModule). numbered (row (faces_of M 0 (in_written_order M)) false) 0 xs) new
 
   -- a row is found by its number
@@ -92,24 +92,24 @@ module _ (M : Plain) (sound : IsSound M) (few : length M.modules ≤ 4294967295)
     at = λ id master found.
         let place = found-at (λ (x : PModule). x.id.0 == id.0) M.modules master found in
         let has = written-has M master place in
-        let at = face-at M 0 (in_written_order M) differ has.0 master has.1 in
+        let at = interface-at M 0 (in_written_order M) differ has.0 master has.1 in
         let e : 0 + has.0 ≡ has.0 = omega arith in
-        let known = (has-faces M sound few).at id master found in
-        let is : known.0 ≡ (face false has.0 (module_tree M master)).1 =
-        same-face (named-face master) known.0 (face false has.0 (module_tree M master)).1 known.1
-        (subst (λ (x : PModule). named-face x ≡ Some (face false (0 + has.0) (module_tree M x)).1) has.2 at ∙ ap (λ n. Some (face false n (module_tree M master)).1) e) in (
+        let known = (has-interfaces M sound few).at id master found in
+        let is : known.0 ≡ (interface false has.0 (module_tree M master)).1 =
+        same-interface (named-interface master) known.0 (interface false has.0 (module_tree M master)).1 known.1
+        (subst (λ (x : PModule). named-interface x ≡ Some (interface false (0 + has.0) (module_tree M x)).1) has.2 at ∙ ap (λ n. Some (interface false n (module_tree M master)).1) e) in (
           known.0,
           known.1,
           known.2,
-          ap (λ (f : Face). module_name (module_of B f.id)) is ∙ ap module_name (row-at has.0 master has.1 has.2),
+          ap (λ (f : Interface). module_name (module_of B f.id)) is ∙ ap module_name (row-at has.0 master has.1 has.2),
         );
   }
     where
-      named-face : PModule → Option Face
-      named-face x = named (faces_of M 0 (in_written_order M)) x.name
+      named-interface : PModule → Option Interface
+      named-interface x = named (faces_of M 0 (in_written_order M)) x.name
 
-      same-face : (o : Option Face) (a b : Face) → o ≡ Some a → o ≡ Some b → a ≡ b
-      same-face o a b e f = let both : Some a ≡ Some b = sym e ∙ f in cc
+      same-interface : (o : Option Interface) (a b : Interface) → o ≡ Some a → o ≡ Some b → a ≡ b
+      same-interface o a b e f = let both : Some a ≡ Some b = sym e ∙ f in cc
 
   row-same : (k : ℕ) (m : PModule) → Contains M.modules m → named_module B (row FS false k (module_tree M m)) ≡ named_module M m
   row-same k m has = row-back M sound few B has-rows m (All-contains (IsSoundModule M) M.modules m sound.modules has) k

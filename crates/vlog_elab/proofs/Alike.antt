@@ -4,9 +4,9 @@ use Rattle.std.specs.Prelude.{◌&&◌}
 use Rattle.std.proofs.lemmas.List.{drop_more, drop_all}
 use Rattle.std.proofs.lemmas.Option.{slice_get-get_or}
 use Rattle.emh_base.specs.declared.plain.Dir.TheVariants.{Input}
-use Rattle.vlog_elab.specs.declared.face.Port.{Port}
+use Rattle.vlog_elab.specs.declared.interface.Port.{Port}
 use Rattle.vlog_elab.specs.Named.{Named}
-use Rattle.vlog_elab.specs.Faces.{same_port, same_ports}
+use Rattle.vlog_elab.specs.Interfaces.{same_port, same_ports}
 
 same_port-and : (b : Bool) → b && false ≡ false
 same_port-and true = refl

@@ -10,8 +10,8 @@ use Rattle.vlog_read.specs.declared.tree.Part.{Part}
 use Rattle.vlog_read.specs.declared.tree.Part.TheVariants.{Name, Bit, Bits, Lit}
 use Rattle.vlog_read.specs.declared.tree.TConn.{TConn}
 use Rattle.vlog_read.specs.declared.tree.TInst.{TInst}
-use Rattle.vlog_elab.specs.declared.face.Port.{Port}
-use Rattle.vlog_elab.specs.declared.face.Face.{Face}
+use Rattle.vlog_elab.specs.declared.interface.Port.{Port}
+use Rattle.vlog_elab.specs.declared.interface.Interface.{Interface}
 use Rattle.vlog_elab.specs.declared.scope.Net.{Net}
 use Rattle.vlog_elab.specs.declared.scope.Scope.{Scope}
 use Rattle.flatten_rules.specs.Check.{first_broken, each_after}
@@ -49,7 +49,7 @@ flags-each e f same before (x ∷ xs) =
 
 abbrev pub bare_step : Step → Step
 bare_step (Declares n range) = Declares (bare_name n) range
-bare_step (Places face master n) = Places face (bare_name master) (bare_name n)
+bare_step (Places interface master n) = Places interface (bare_name master) (bare_name n)
 bare_step (Connects ports inst before c) = Connects ports (bare_name inst) (map bare_conn before) (bare_conn c)
 bare_step (Uses part) = Uses (bare_part part)
 bare_step (Fits ports before c) = Fits ports (map bare_conn before) (bare_conn c)
@@ -116,7 +116,7 @@ fit-flags ns c (p ∷ ps) (Some port) = ap (λ n. not (n == width port.1.range) 
 
 pub step-flags : (s : Scope) (x : Step) → flags (step_checks s (bare_step x)) ≡ flags (step_checks s x)
 step-flags s (Declares n range) = refl
-step-flags s (Places face master n) = refl
+step-flags s (Places interface master n) = refl
 step-flags s (Connects ports inst before c) = conn-flags ports inst before c c.port
 step-flags s (Uses (Name n)) = refl
 step-flags s (Uses (Bit n index)) = refl
@@ -133,7 +133,7 @@ met-bare xs =
   where
     net-same : (x : Step) → net_at (bare_step x) ≡ net_at x
     net-same (Declares n range) = refl
-    net-same (Places face master n) = refl
+    net-same (Places interface master n) = refl
     net-same (Connects ports inst before c) = refl
     net-same (Uses (Name n)) = refl
     net-same (Uses (Bit n index)) = refl
@@ -143,7 +143,7 @@ met-bare xs =
 
     inst-same : (x : Step) → inst_at (bare_step x) ≡ inst_at x
     inst-same (Declares n range) = refl
-    inst-same (Places face master n) = refl
+    inst-same (Places interface master n) = refl
     inst-same (Connects ports inst before c) = refl
     inst-same (Uses part) = refl
     inst-same (Fits ports before c) = refl
@@ -169,10 +169,10 @@ conn-bare ports inst before c =
     ap (λ xs. Connects ports (bare_name inst) (map bare_conn before) (bare_conn c) ∷ (xs ++ Fits ports (map bare_conn before) (bare_conn c) ∷ [])) (uses-bare c.parts)
     ∙ ap (λ xs. Connects ports (bare_name inst) (map bare_conn before) (bare_conn c) ∷ xs) (sym (map-append bare_step (map Uses c.parts) (Fits ports before c ∷ [])))
 
-pub inst-bare : (face : Option Face) (master : At) (i : TInst) → inst_steps face (bare_name master) (bare_inst i) ≡ map bare_step (inst_steps face master i)
-inst-bare face master i =
-    ap (λ xs. Places face (bare_name master) (bare_name i.name) ∷ xs)
-    (each-mapped bare_conn bare_step (conn_steps (ports_of face) (bare_name i.name)) (conn_steps (ports_of face) i.name) (λ before c. conn-bare (ports_of face) i.name before c) [] i.conns)
+pub inst-bare : (interface : Option Interface) (master : At) (i : TInst) → inst_steps interface (bare_name master) (bare_inst i) ≡ map bare_step (inst_steps interface master i)
+inst-bare interface master i =
+    ap (λ xs. Places interface (bare_name master) (bare_name i.name) ∷ xs)
+    (each-mapped bare_conn bare_step (conn_steps (ports_of interface) (bare_name i.name)) (conn_steps (ports_of interface) i.name) (λ before c. conn-bare (ports_of interface) i.name before c) [] i.conns)
 
 -- the flags of a walk over bare steps
 pub steps-flags : (xs : List Step) → flags (each_after (λ before step. step_checks (met before) step) [] (map bare_step xs)) ≡ flags (each_after (λ before step. step_checks (met before) step) [] xs)

@@ -27,15 +27,15 @@ use Rattle.vlog_read.specs.declared.tree.Header.{Header}
 use Rattle.vlog_read.specs.declared.tree.Header.TheVariants.{Names, Decls}
 use Rattle.vlog_read.specs.declared.tree.TModule.{TModule}
 use Rattle.vlog_read.specs.declared.tree.Tree.{Tree}
-use Rattle.vlog_elab.specs.declared.face.Port.{Port}
-use Rattle.vlog_elab.specs.declared.face.Face.{Face}
-use Rattle.vlog_elab.specs.declared.face.Known.{Known}
+use Rattle.vlog_elab.specs.declared.interface.Port.{Port}
+use Rattle.vlog_elab.specs.declared.interface.Interface.{Interface}
+use Rattle.vlog_elab.specs.declared.interface.Known.{Known}
 use Rattle.vlog_elab.specs.declared.said.Said.{Said}
 use Rattle.flatten_rules.specs.Check.{each_after}
 use Rattle.vlog_elab.specs.Check.{Check}
 use Rattle.vlog_elab.specs.Named.{Named, named, is_there, firsts, just_names, numbered}
 use Rattle.vlog_elab.specs.Text.{is_leaf, header_names, header_decls, range_of}
-use Rattle.vlog_elab.specs.Faces.{Place, Ranged, Directed, Wired, Placed, range_places, name_place, decl_places, item_places, places, direction_at, wire_at, said, port_of, ports, face, has_module, row_face, added, faces, known}
+use Rattle.vlog_elab.specs.Interfaces.{Place, Ranged, Directed, Wired, Placed, range_places, name_place, decl_places, item_places, places, direction_at, wire_at, said, port_of, ports, interface, has_module, row_face, added, interfaces, known}
 use Rattle.vlog_elab.specs.Declarations.{header_checks, place_checks, direction_check, inside_checks, name_check, entry_checks, module_checks, declaration_checks}
 use Rattle.vlog_elab.specs.Steps.{Declares, decl_steps, item_steps, inst_steps, steps, met, ports_of}
 use Rattle.vlog_elab.specs.Connections.{step_checks, inner_checks, connection_checks}
@@ -76,7 +76,7 @@ decl_steps-bare : (d : Decl) → decl_steps (bare_decl d) ≡ map bare_step (dec
 decl_steps-bare d =
     ap (λ r. map (λ n. Declares n r) (map bare_name d.names)) (range-bare d) ∙ map-both bare_name bare_step (λ n. Declares n (range_of d)) (λ n. refl) d.names
 
-item_steps-bare : (fs : Named Face) (item : Item) → item_steps fs (bare_item item) ≡ map bare_step (item_steps fs item)
+item_steps-bare : (fs : Named Interface) (item : Item) → item_steps fs (bare_item item) ≡ map bare_step (item_steps fs item)
 item_steps-bare fs (Declaration d) = decl_steps-bare d
 item_steps-bare fs (Insts master is) = flat-with bare_inst bare_step (inst_steps (named fs master.name) (bare_name master)) (inst_steps (named fs master.name) master) (inst-bare (named fs master.name) master) is
 
@@ -84,13 +84,13 @@ header_steps-bare : (h : Header) → flat_map decl_steps (header_decls (bare_hea
 header_steps-bare (Names names) = refl
 header_steps-bare (Decls ds) = flat-mapped bare_decl bare_step decl_steps decl_steps-bare ds
 
-steps-bare : (fs : Named Face) (m : TModule) → steps fs (bare_module m) ≡ map bare_step (steps fs m)
+steps-bare : (fs : Named Interface) (m : TModule) → steps fs (bare_module m) ≡ map bare_step (steps fs m)
 steps-bare fs m =
     ap (λ xs. xs ++ flat_map (item_steps fs) (map bare_item m.items)) (header_steps-bare m.header)
     ∙ ap (λ xs. map bare_step (flat_map decl_steps (header_decls m.header)) ++ xs) (flat-mapped bare_item bare_step (item_steps fs) (item_steps-bare fs) m.items)
     ∙ sym (map-append bare_step (flat_map decl_steps (header_decls m.header)) (flat_map (item_steps fs) m.items))
 
-inner-flags : (fs : Named Face) (m : TModule) → flags (inner_checks fs (bare_module m)) ≡ flags (inner_checks fs m)
+inner-flags : (fs : Named Interface) (m : TModule) → flags (inner_checks fs (bare_module m)) ≡ flags (inner_checks fs m)
 inner-flags fs m = ap (λ xs. flags (each_after (λ before step. step_checks (met before) step) [] xs)) (steps-bare fs m) ∙ steps-flags (steps fs m)
 
 -- The first round.
@@ -231,25 +231,25 @@ pub numbered-bare : {Y : Type 0} (make : ℕ → TModule → Y) → ((n : ℕ) (
 numbered-bare make same n [] = refl
 numbered-bare make same n (m ∷ ms) = ap (λ y. y ∷ numbered make (n + 1) (map bare_module ms)) (same n m) ∙ ap (λ ys. make n m ∷ ys) (numbered-bare make same (n + 1) ms)
 
-pub faces-bare : (M : Plain) (l : Bool) (ms : List TModule) → faces M l (map bare_module ms) ≡ faces M l ms
-faces-bare M l ms =
-    ap (λ xs. map row_face M.modules ++ numbered (face l) M.next_module xs) (added-bare M ms)
-    ∙ ap (λ es. map row_face M.modules ++ es) (numbered-bare (face l) (λ n m. ap (λ ps. (m.name.name, record { id = record { 0 = n }; leaf = is_leaf l m; ports = ps })) (ports-bare m)) M.next_module (added M ms))
+pub interfaces-bare : (M : Plain) (l : Bool) (ms : List TModule) → interfaces M l (map bare_module ms) ≡ interfaces M l ms
+interfaces-bare M l ms =
+    ap (λ xs. map row_face M.modules ++ numbered (interface l) M.next_module xs) (added-bare M ms)
+    ∙ ap (λ es. map row_face M.modules ++ es) (numbered-bare (interface l) (λ n m. ap (λ ps. (m.name.name, record { id = record { 0 = n }; leaf = is_leaf l m; ports = ps })) (ports-bare m)) M.next_module (added M ms))
 
 known-bare : (M : Plain) (l : Bool) (ms : List TModule) → known M l (map bare_module ms) ≡ known M l ms
 known-bare M l ms =
-    let fs = faces-bare M l ms in
+    let fs = interfaces-bare M l ms in
     let n = ap (λ xs. M.next_module + length xs) (added-bare M ms) ∙ ap (λ k. M.next_module + k) (length-map (added M ms) bare_module) in
-    λ i. record { faces = fs i; next_module = n i }
+    λ i. record { interfaces = fs i; next_module = n i }
 
 pub declarations-flags : (M : Plain) (l : Bool) (ms : List TModule) → flags (declaration_checks M l (map bare_module ms)) ≡ flags (declaration_checks M l ms)
 declarations-flags M l ms =
     flags-each bare_module (λ before m. module_checks l (known M l before) m) (λ before m. ap (λ k. flags (module_checks l k (bare_module m))) (known-bare M l before) ∙ module-flags l (known M l before) m) [] ms
 
 pub connections-flags : (M : Plain) (l : Bool) (ms : List TModule) → flags (connection_checks M l (map bare_module ms)) ≡ flags (connection_checks M l ms)
-connections-flags M l ms = ap (λ fs. flags (flat_map (λ m. cond (is_leaf l m) [] (inner_checks fs m)) (map bare_module ms))) (faces-bare M l ms) ∙ go (faces M l ms) ms
+connections-flags M l ms = ap (λ fs. flags (flat_map (λ m. cond (is_leaf l m) [] (inner_checks fs m)) (map bare_module ms))) (interfaces-bare M l ms) ∙ go (interfaces M l ms) ms
   where
-    go : (fs : Named Face) (ms : List TModule) → flags (flat_map (λ m. cond (is_leaf l m) [] (inner_checks fs m)) (map bare_module ms)) ≡ flags (flat_map (λ m. cond (is_leaf l m) [] (inner_checks fs m)) ms)
+    go : (fs : Named Interface) (ms : List TModule) → flags (flat_map (λ m. cond (is_leaf l m) [] (inner_checks fs m)) (map bare_module ms)) ≡ flags (flat_map (λ m. cond (is_leaf l m) [] (inner_checks fs m)) ms)
     go fs [] = refl
     go fs (m ∷ ms) =
         map-append (λ (c : Check). c.0) (cond (is_leaf l m) [] (inner_checks fs (bare_module m))) (flat_map (λ m. cond (is_leaf l m) [] (inner_checks fs m)) (map bare_module ms))
@@ -338,13 +338,13 @@ conns-bare ns ps cs = go 0 ps
         let t = go (n + 1) ps in
         λ i. h i ∷ t i
 
-inst_row-bare : (fs : Named Face) (ns : Named Net) (n : ℕ) (i : At × TInst) → inst_row fs ns n (bare_pair i) ≡ inst_row fs ns n i
+inst_row-bare : (fs : Named Interface) (ns : Named Net) (n : ℕ) (i : At × TInst) → inst_row fs ns n (bare_pair i) ≡ inst_row fs ns n i
 unfolding bare_pair
 inst_row-bare fs ns n i =
     let cs = conns-bare ns (ports_of (named fs i.0.name)) i.1.conns in
     λ j. record { id = record { 0 = n }; name = i.1.name.name; master = master_id (named fs i.0.name); conns = cs j }
 
-insts-bare : (fs : Named Face) (ns : Named Net) (m : TModule) → (numbered (inst_row fs ns) 0 (insts (bare_module m)) ≡ numbered (inst_row fs ns) 0 (insts m)) × (length (insts (bare_module m)) ≡ length (insts m))
+insts-bare : (fs : Named Interface) (ns : Named Net) (m : TModule) → (numbered (inst_row fs ns) 0 (insts (bare_module m)) ≡ numbered (inst_row fs ns) 0 (insts m)) × (length (insts (bare_module m)) ≡ length (insts m))
 insts-bare fs ns m =
     let is : insts (bare_module m) ≡ map bare_pair (insts m) = flat-mapped bare_item bare_pair insts_in insts_in-bare m.items in
     (ap (numbered (inst_row fs ns) 0) is ∙ go 0 (insts m), ap length is ∙ length-map (insts m) bare_pair)
@@ -353,7 +353,7 @@ insts-bare fs ns m =
     go n [] = refl
     go n (i ∷ is) = let h = inst_row-bare fs ns n i in let t = go (n + 1) is in λ j. h j ∷ t j
 
-row-bare : (fs : Named Face) (l : Bool) (n : ℕ) (m : TModule) → row fs l n (bare_module m) ≡ row fs l n m
+row-bare : (fs : Named Interface) (l : Bool) (n : ℕ) (m : TModule) → row fs l n (bare_module m) ≡ row fs l n m
 row-bare fs l n m =
     let ns = nets-bare m in
     let ps = ports-bare m in
@@ -377,11 +377,11 @@ row-bare fs l n m =
 built-bare : (M : Plain) (l : Bool) (tree : Tree) → built M l (bare tree) ≡ built M l tree
 unfolding built
 built-bare M l tree =
-    let fs = faces-bare M l tree.modules in
+    let fs = interfaces-bare M l tree.modules in
     let new = added-bare M tree.modules in
-    let rows = ap (λ (fs : Named Face). numbered (row fs l) M.next_module (added M (map bare_module tree.modules))) fs
-    ∙ ap (numbered (row (faces M l tree.modules) l) M.next_module) new
-    ∙ numbered-bare (row (faces M l tree.modules) l) (row-bare (faces M l tree.modules) l) M.next_module (added M tree.modules) in
+    let rows = ap (λ (fs : Named Interface). numbered (row fs l) M.next_module (added M (map bare_module tree.modules))) fs
+    ∙ ap (numbered (row (interfaces M l tree.modules) l) M.next_module) new
+    ∙ numbered-bare (row (interfaces M l tree.modules) l) (row-bare (interfaces M l tree.modules) l) M.next_module (added M tree.modules) in
     let count = ap length new ∙ length-map (added M tree.modules) bare_module in
     λ i. record { modules = M.modules ++ rows i; next_module = M.next_module + count i }
 

@@ -8,31 +8,31 @@ use Rattle.emh_base.specs.declared.plain.Plain.{Plain}
 use Rattle.flatten_rules.specs.Cycle.{IsFirstOnCycle}
 use Rattle.vlog_read.specs.declared.tree.TModule.{TModule}
 use Rattle.vlog_read.specs.declared.tree.Tree.{Tree}
-use Rattle.vlog_elab.specs.declared.face.Face.{Face}
-use Rattle.vlog_elab.specs.declared.face.Known.{Known}
+use Rattle.vlog_elab.specs.declared.interface.Interface.{Interface}
+use Rattle.vlog_elab.specs.declared.interface.Known.{Known}
 use Rattle.vlog_elab.specs.declared.fault.ElabFault.{ElabFault}
 use Rattle.vlog_elab.specs.declared.fault.ElabFault.TheVariants.{Fault, NoMemory}
 use Rattle.vlog_elab.specs.declared.fault.ElabKind.TheVariants as kind
 use Rattle.flatten_rules.specs.Check.{first_broken}
 use Rattle.vlog_elab.specs.Named.{Named, numbered}
-use Rattle.vlog_elab.specs.Faces.{added, faces, known}
+use Rattle.vlog_elab.specs.Interfaces.{added, interfaces, known}
 use Rattle.vlog_elab.specs.Table.{row, built}
 use Rattle.vlog_elab.specs.Elaboration.{checks, HasFault, UnlessNoMemory}
-use Rattle.vlog_elab.specs.Walk.{Found}
+use Rattle.vlog_elab.specs.inside.Walk.{Found}
 use Rattle.vlog_elab.proofs.Numbering.{length-numbered}
 
 -- the table that is made is the one that is built
 pub made-is : (M : Plain) (all_leaf : Bool) (tree : Tree) (k : Known) (ms : List TModule) (rows : List PModule) → ms ≡ tree.modules → k ≡ known M all_leaf tree.modules
-    → rows ≡ M.modules ++ numbered (row k.faces all_leaf) M.next_module (added M ms) → record { modules = rows; next_module = k.next_module } ≡ built M all_leaf tree
+    → rows ≡ M.modules ++ numbered (row k.interfaces all_leaf) M.next_module (added M ms) → record { modules = rows; next_module = k.next_module } ≡ built M all_leaf tree
 unfolding built
 made-is M all_leaf tree k ms rows same is made =
-    let e : rows ≡ M.modules ++ numbered (row (faces M all_leaf tree.modules) all_leaf) M.next_module (added M tree.modules)
-    = made ∙ ap (λ (k : Known). M.modules ++ numbered (row k.faces all_leaf) M.next_module (added M ms)) is
-    ∙ ap (λ ms. M.modules ++ numbered (row (faces M all_leaf tree.modules) all_leaf) M.next_module (added M ms)) same in
+    let e : rows ≡ M.modules ++ numbered (row (interfaces M all_leaf tree.modules) all_leaf) M.next_module (added M tree.modules)
+    = made ∙ ap (λ (k : Known). M.modules ++ numbered (row k.interfaces all_leaf) M.next_module (added M ms)) is
+    ∙ ap (λ ms. M.modules ++ numbered (row (interfaces M all_leaf tree.modules) all_leaf) M.next_module (added M ms)) same in
     rw (e, is) refl
 
 -- a place that holds a module is one of the table's, or of a module that is added
-pub place-within : (M : Plain) (all_leaf : Bool) (fs : Named Face) (ms : List TModule) (rows : List PModule) (P : PModule → Type 0) (place : ℕ)
+pub place-within : (M : Plain) (all_leaf : Bool) (fs : Named Interface) (ms : List TModule) (rows : List PModule) (P : PModule → Type 0) (place : ℕ)
     → rows ≡ M.modules ++ numbered (row fs all_leaf) M.next_module (added M ms) → IsSomeAnd (slice_get rows place) P → place < length M.modules + length (added M ms)
 place-within M all_leaf fs ms rows P place made h = at_o (slice_get rows place) refl h
   where
@@ -84,6 +84,6 @@ fault-of_cycle M all_leaf tree place e passed on_cycle within says = at_o (slice
         })
         at_e NoMemory f = tt
 
--- the faces that are known are those of the text
-pub faces-known : (M : Plain) (all_leaf : Bool) (tree : Tree) (k : Known) (ms : List TModule) → ms ≡ tree.modules → k ≡ known M all_leaf tree.modules → k.faces ≡ faces M all_leaf ms
-faces-known M all_leaf tree k ms same is = ap (λ (k : Known). k.faces) is ∙ ap (faces M all_leaf) (sym same)
+-- the interfaces that are known are those of the text
+pub interfaces-known : (M : Plain) (all_leaf : Bool) (tree : Tree) (k : Known) (ms : List TModule) → ms ≡ tree.modules → k ≡ known M all_leaf tree.modules → k.interfaces ≡ interfaces M all_leaf ms
+interfaces-known M all_leaf tree k ms same is = ap (λ (k : Known). k.interfaces) is ∙ ap (interfaces M all_leaf) (sym same)

@@ -25,8 +25,8 @@ use Rattle.vlog_read.specs.declared.tree.Part.TheVariants.{Name, Bit, Bits, Lit}
 use Rattle.vlog_read.specs.declared.tree.TConn.{TConn}
 use Rattle.vlog_read.specs.declared.tree.TInst.{TInst}
 use Rattle.vlog_elab.specs.declared.fault.ElabKind.TheVariants as kind
-use Rattle.vlog_elab.specs.declared.face.Port.{Port}
-use Rattle.vlog_elab.specs.declared.face.Face.{Face}
+use Rattle.vlog_elab.specs.declared.interface.Port.{Port}
+use Rattle.vlog_elab.specs.declared.interface.Interface.{Interface}
 use Rattle.vlog_elab.specs.declared.scope.Net.{Net}
 use Rattle.flatten_rules.specs.Check.{first_broken}
 use Rattle.vlog_elab.specs.Check.{check_at, check}
@@ -235,47 +235,47 @@ conn_to_fits R ns ports inst (b ∷ cs) k port has fits apart at = at_b (is_some
 
 -- Instances.
 
--- a module is as its face says
-pub record IsFaceOf (face : Face) (master : PModule) : Type 0 where
-  pub many : length master.ports ≡ length face.ports
-  pub apart : AllPairs Differ face.ports
-  pub widths : (k : ℕ) (port : List ℕ × Port) (d : PPort) → slice_get face.ports k ≡ Some port → width_of (net_of master (get_or master.ports k d).net) ≡ width port.1.range
+-- a module is as its interface says
+pub record IsFaceOf (interface : Interface) (master : PModule) : Type 0 where
+  pub many : length master.ports ≡ length interface.ports
+  pub apart : AllPairs Differ interface.ports
+  pub widths : (k : ℕ) (port : List ℕ × Port) (d : PPort) → slice_get interface.ports k ≡ Some port → width_of (net_of master (get_or master.ports k d).net) ≡ width port.1.range
 
-pub record HasModule (M : Plain) (face : Face) : Type 0 where
+pub record HasModule (M : Plain) (interface : Interface) : Type 0 where
   pub master : PModule
-  pub found : module_of M face.id ≡ Some master
-  pub is : IsFaceOf face master
+  pub found : module_of M interface.id ≡ Some master
+  pub is : IsFaceOf interface master
 
 fits_port : (R master : PModule) (port : PPort) (count : ℕ) (c : Conn) → width_of (net_of master port.net) ≡ count → FitsWidth R count c → FitsPort R master port c
 fits_port R master port count conn.Open e h = tt
 fits_port R master port count (conn.Bits bits) e h = (h.0 ∙ sym e, h.1)
 
-pub inst_sound : (M : Plain) (R : PModule) (ns : Named Net) (fs : Named Face) (id : ℕ) (i : At × TInst) → HasNamed R ns → ((q : List ℕ) (face : Face) → named fs q ≡ Some face → HasModule M face)
+pub inst_sound : (M : Plain) (R : PModule) (ns : Named Net) (fs : Named Interface) (id : ℕ) (i : At × TInst) → HasNamed R ns → ((q : List ℕ) (interface : Interface) → named fs q ≡ Some interface → HasModule M interface)
     → InstFits ns fs i → HasMaster M R (inst_row fs ns id i)
 inst_sound M R ns fs id i has known fits = at_o (named fs i.0.name) refl
   where
-    with_face : (face : Face) → named fs i.0.name ≡ Some face → MatchOption (module_of M face.id) ⊥ (λ master. FitPorts R master master.ports (conns_of ns face.ports i.1.conns))
-    with_face face e =
-        let own : HasModule M face = known i.0.name face e in
-        let conns : List Conn = conns_of ns face.ports i.1.conns in
-        let each : (k : ℕ) (c : TConn) → slice_get i.1.conns k ≡ Some c → ConnFits ns face.ports i.1.name (take k i.1.conns) c
-        = λ k c at. subst (λ (o : Option Face). ConnFits ns (ports_of o) i.1.name (take k i.1.conns) c) e (fits.conns k c at) in
+    with_face : (interface : Interface) → named fs i.0.name ≡ Some interface → MatchOption (module_of M interface.id) ⊥ (λ master. FitPorts R master master.ports (conns_of ns interface.ports i.1.conns))
+    with_face interface e =
+        let own : HasModule M interface = known i.0.name interface e in
+        let conns : List Conn = conns_of ns interface.ports i.1.conns in
+        let each : (k : ℕ) (c : TConn) → slice_get i.1.conns k ≡ Some c → ConnFits ns interface.ports i.1.name (take k i.1.conns) c
+        = λ k c at. subst (λ (o : Option Interface). ConnFits ns (ports_of o) i.1.name (take k i.1.conns) c) e (fits.conns k c at) in
         let make : ℕ → List ℕ × Port → Conn = λ place port. conn_of ns (conn_to i.1.conns place port.0) in
         let fit : FitPorts R own.master own.master.ports conns
-        = fit-from_each R own.master own.master.ports conns (own.is.many ∙ sym (length-numbered make 0 face.ports))
+        = fit-from_each R own.master own.master.ports conns (own.is.many ∙ sym (length-numbered make 0 interface.ports))
         (λ k port c lt.
-        let within : k < length face.ports = omega (arith, lt, own.is.many) in
+        let within : k < length interface.ports = omega (arith, lt, own.is.many) in
         let none : List ℕ × Port = ([], record { dir = port.dir; range = None }) in
-        let p : List ℕ × Port = get_or face.ports k none in
-        let at : slice_get face.ports k ≡ Some p = slice_get-get_or face.ports k none within in
+        let p : List ℕ × Port = get_or interface.ports k none in
+        let at : slice_get interface.ports k ≡ Some p = slice_get-get_or interface.ports k none within in
         let zero : 0 + k ≡ k = omega arith in
-        let made : get_or conns k c ≡ make k p = get_or_from_slice_get conns k (make k p) c (numbered_at make 0 face.ports k p at ∙ ap (λ n. Some (make n p)) zero) in
+        let made : get_or conns k c ≡ make k p = get_or_from_slice_get conns k (make k p) c (numbered_at make 0 interface.ports k p at ∙ ap (λ n. Some (make n p)) zero) in
         subst (λ (x : Conn). FitsPort R own.master (get_or own.master.ports k port) x) (sym made)
         (fits_port R own.master (get_or own.master.ports k port) (width p.1.range) (make k p) (own.is.widths k p port at)
-        (conn_to_fits R ns face.ports i.1.name i.1.conns k p has each own.is.apart at))) in
+        (conn_to_fits R ns interface.ports i.1.name i.1.conns k p has each own.is.apart at))) in
         subst (λ (o : Option PModule). MatchOption o ⊥ (λ master. FitPorts R master master.ports conns)) (sym own.found) fit
 
-    at_o : (o : Option Face) → named fs i.0.name ≡ o → HasMaster M R (inst_row fs ns id i)
+    at_o : (o : Option Interface) → named fs i.0.name ≡ o → HasMaster M R (inst_row fs ns id i)
     at_o None e = let no : true ≡ false = sym (ap is_none e) ∙ fits.master in absurd (cc no)
-    at_o (Some face) e =
-        subst (λ (o : Option Face). MatchOption (module_of M (master_id o)) ⊥ (λ master. FitPorts R master master.ports (conns_of ns (ports_of o) i.1.conns))) (sym e) (with_face face e)
+    at_o (Some interface) e =
+        subst (λ (o : Option Interface). MatchOption (module_of M (master_id o)) ⊥ (λ master. FitPorts R master master.ports (conns_of ns (ports_of o) i.1.conns))) (sym e) (with_face interface e)

@@ -8,17 +8,17 @@ use Rattle.flatten_rules.specs.Check.{first_broken}
 use Rattle.flatten_rules.specs.Sound.{IsSound, IsCounter}
 use Rattle.vlog_read.specs.declared.tree.TModule.{TModule}
 use Rattle.vlog_read.specs.declared.tree.Tree.{Tree}
-use Rattle.vlog_elab.specs.declared.face.Known.{Known}
+use Rattle.vlog_elab.specs.declared.interface.Known.{Known}
 use Rattle.vlog_elab.specs.declared.fault.ElabKind.TheVariants as kind
 use Rattle.vlog_elab.specs.Check.{Check, check}
 use Rattle.vlog_elab.specs.Named.{is_there, named}
 use Rattle.vlog_elab.specs.Text.{is_leaf}
-use Rattle.vlog_elab.specs.Faces.{added, ports, known}
+use Rattle.vlog_elab.specs.Interfaces.{added, ports, known}
 use Rattle.vlog_elab.specs.Declarations.{name_check, inside_checks, has_other_ports, entry_checks, declaration_checks}
 use Rattle.vlog_elab.specs.Connections.{connection_checks}
 use Rattle.vlog_elab.specs.Elaboration.{checks}
-use Rattle.vlog_elab.specs.Walk.{first_fault, at_end}
-use Rattle.vlog_elab.specs.Walks.{after_module, module_walk}
+use Rattle.vlog_elab.specs.inside.Walk.{first_fault, at_end}
+use Rattle.vlog_elab.specs.inside.Walks.{after_module, module_walk}
 use Rattle.vlog_elab.specs.Counters.{HasCounters}
 use Rattle.vlog_elab.proofs.Passing.{none_left, none_right, unbroken}
 use Rattle.vlog_elab.proofs.Declaring.{module-parts}
@@ -34,10 +34,10 @@ added-counted : (there : Bool) (n : ℕ) → (not there && n == 4294967295) ≡ 
 added-counted true n room few = few
 added-counted false n room few = let last : (n == 4294967295) ≡ false = room in grind (arith, nat_tests)
 
-next-after : (all_leaf : Bool) (k : Known) (m : TModule) → (after_module all_leaf k m).next_module ≡ cond (is_there k.faces m.name.name) k.next_module (k.next_module + 1)
-next-after all_leaf k m = by (is_there k.faces m.name.name) refl
+next-after : (all_leaf : Bool) (k : Known) (m : TModule) → (after_module all_leaf k m).next_module ≡ cond (is_there k.interfaces m.name.name) k.next_module (k.next_module + 1)
+next-after all_leaf k m = by (is_there k.interfaces m.name.name) refl
   where
-    by : (b : Bool) → is_there k.faces m.name.name ≡ b → (after_module all_leaf k m).next_module ≡ cond (is_there k.faces m.name.name) k.next_module (k.next_module + 1)
+    by : (b : Bool) → is_there k.interfaces m.name.name ≡ b → (after_module all_leaf k m).next_module ≡ cond (is_there k.interfaces m.name.name) k.next_module (k.next_module + 1)
     by true e = rw e refl
     by false e = rw e refl
 
@@ -48,11 +48,11 @@ step-counted all_leaf k m passed few =
     let entry = first_broken (entry_checks k (ports m) m) in
     let rest = none_right name _ (sym (module-parts all_leaf k m) ∙ passed) in
     let entries = none_right inside entry rest in
-    let other_ports : Check = check kind.NameTaken m.name (has_other_ports (ports m) (named k.faces m.name.name)) in
-    let no_id : Check = check kind.TooManyModules m.name (not (is_there k.faces m.name.name) && k.next_module == 4294967295) in
+    let other_ports : Check = check kind.NameTaken m.name (has_other_ports (ports m) (named k.interfaces m.name.name)) in
+    let no_id : Check = check kind.TooManyModules m.name (not (is_there k.interfaces m.name.name) && k.next_module == 4294967295) in
     let other = unbroken other_ports (no_id ∷ []) entries in
     let room = (unbroken no_id [] other.1).0 in
-    subst IsCounter (sym (next-after all_leaf k m)) (added-counted (is_there k.faces m.name.name) k.next_module room few)
+    subst IsCounter (sym (next-after all_leaf k m)) (added-counted (is_there k.interfaces m.name.name) k.next_module room few)
 
 walk-counted : (all_leaf : Bool) (k : Known) (ms : List TModule) → first_fault (module_walk all_leaf) k ms ≡ None → IsCounter k.next_module → IsCounter (at_end (module_walk all_leaf) k ms).next_module
 walk-counted all_leaf k [] passed few = few

@@ -5,8 +5,8 @@ use Rattle.std.proofs.lemmas.List.{append-nil, map-append}
 use Rattle.std.specs.Option.{option_or}
 use Rattle.vlog_read.specs.declared.tree.At.{At}
 use Rattle.vlog_read.specs.declared.tree.TModule.{TModule}
-use Rattle.vlog_elab.specs.declared.face.Port.{Port}
-use Rattle.vlog_elab.specs.declared.face.Known.{Known}
+use Rattle.vlog_elab.specs.declared.interface.Port.{Port}
+use Rattle.vlog_elab.specs.declared.interface.Known.{Known}
 use Rattle.vlog_elab.specs.declared.said.Said.{Said}
 use Rattle.vlog_elab.specs.declared.fault.ElabFault.{ElabFault}
 use Rattle.flatten_rules.specs.Check.{first_broken, each_after}
@@ -14,10 +14,10 @@ use Rattle.flatten_rules.proofs.FirstBroken.{first_broken-append}
 use Rattle.vlog_elab.specs.Check.{Check}
 use Rattle.vlog_elab.specs.Named.{Named, just_names}
 use Rattle.vlog_elab.specs.Text.{is_leaf, header_names}
-use Rattle.vlog_elab.specs.Faces.{Place, places, direction_at, wire_at, said, port_of, ports}
+use Rattle.vlog_elab.specs.Interfaces.{Place, places, direction_at, wire_at, said, port_of, ports}
 use Rattle.vlog_elab.specs.Declarations.{header_checks, place_checks, direction_check, inside_checks, name_check, entry_checks, module_checks}
-use Rattle.vlog_elab.specs.Walk.{first_fault, at_end, Found, Passed, Fails, Gives, Walks, Checks}
-use Rattle.vlog_elab.specs.Walks.{header_walk, place_walk, port_walk, after_place, module_walk, with_module}
+use Rattle.vlog_elab.specs.inside.Walk.{first_fault, at_end, Found, Passed, Fails, Gives, Walks, Checks}
+use Rattle.vlog_elab.specs.inside.Walks.{header_walk, place_walk, port_walk, after_place, module_walk, with_module}
 use Rattle.vlog_elab.proofs.Walking.{flat_map-push, or-assoc, or-none, walked, known-at_end, found-or, found-after, found-along}
 
 names-more : (before : List At) (n : At) → just_names (before ++ n ∷ []) ≡ header_walk.after (just_names before) n

@@ -8,7 +8,7 @@ use Rattle.std.proofs.lemmas.List.Quantifiers.{all_pairs_push}
 use Rattle.std.proofs.lemmas.Option.{slice_get_within, get_or_from_slice_get}
 use Rattle.flatten_rules.proofs.Walks.{find-own}
 use Rattle.vlog_elab.specs.Named.{Named, named, is_there, place_of, firsts, numbered}
-use Rattle.vlog_elab.specs.Walks.{with_new}
+use Rattle.vlog_elab.specs.inside.Walks.{with_new}
 use Rattle.vlog_elab.proofs.Each.{all_none, all_cons, all_head, all_tail, pairs_none, pairs_head, pairs_tail, numbered_rise}
 use Rattle.vlog_elab.proofs.Naming.{same_name, bytes_eq-refl}
 use Rattle.vlog_elab.proofs.Meeting.{firsts-from_none}

@@ -15,8 +15,8 @@ use Rattle.vlog_read.specs.declared.tree.TInst.{TInst}
 use Rattle.vlog_read.specs.declared.tree.Item.{Item}
 use Rattle.vlog_read.specs.declared.tree.Item.TheVariants.{Decl as Declaration, Insts}
 use Rattle.vlog_read.specs.declared.tree.TModule.{TModule}
-use Rattle.vlog_elab.specs.declared.face.Port.{Port}
-use Rattle.vlog_elab.specs.declared.face.Face.{Face}
+use Rattle.vlog_elab.specs.declared.interface.Port.{Port}
+use Rattle.vlog_elab.specs.declared.interface.Interface.{Interface}
 use Rattle.vlog_elab.specs.declared.scope.Net.{Net}
 use Rattle.vlog_elab.specs.declared.scope.Scope.{Scope}
 use Rattle.flatten_rules.specs.Check.{first_broken, each_after}
@@ -25,8 +25,8 @@ use Rattle.vlog_elab.specs.Text.{header_decls, range_of}
 use Rattle.vlog_elab.specs.Steps.{Step, Declares, Places, Connects, Uses, Fits, decl_steps, conn_steps, inst_steps, item_steps, steps, ports_of, net_at}
 use Rattle.vlog_elab.specs.Connections.{is_implied, net_range, has_index, has_indices, part_width, port_at, width_checks, conn_checks, inner_checks}
 use Rattle.vlog_elab.specs.Table.{nets, insts_in, insts}
-use Rattle.vlog_elab.specs.Walk.{at_end}
-use Rattle.vlog_elab.specs.Walks.{after_step, step_walk}
+use Rattle.vlog_elab.specs.inside.Walk.{at_end}
+use Rattle.vlog_elab.specs.inside.Walks.{after_step, step_walk}
 use Rattle.vlog_elab.proofs.Each.{all_none, all_cons, all_head, all_tail}
 use Rattle.vlog_elab.proofs.Joining.{inner_checks-walk}
 use Rattle.vlog_elab.proofs.Passing.{not_false, unbroken, Runs, Stands, run_parts, one_step, run_each, run_flat, run_after}
@@ -56,7 +56,7 @@ PartFits ns (Lit size value) = Unit {0}
 
 abbrev pub StepFits : Named Net → Step → Type 0
 StepFits ns (Declares n range) = IsDeclared ns n.name
-StepFits ns (Places face master n) = Unit {0}
+StepFits ns (Places interface master n) = Unit {0}
 StepFits ns (Connects ports inst before c) = Unit {0}
 StepFits ns (Uses part) = PartFits ns part
 StepFits ns (Fits ports before c) = Unit {0}
@@ -121,7 +121,7 @@ name_declared ns s n range r = at_o (named s.nets n.name) refl (unbroken _ (_ �
 
 step_fits : (ns : Named Net) (s : Scope) (x : Step) → Stands step_walk (Extends ns) s x → StepFits ns x
 step_fits ns s (Declares n range) r = name_declared ns s n range r
-step_fits ns s (Places face master n) r = tt
+step_fits ns s (Places interface master n) r = tt
 step_fits ns s (Connects ports inst before c) r = tt
 step_fits ns s (Uses part) r = part_fits ns s part r
 step_fits ns s (Fits ports before c) r = tt
@@ -180,11 +180,11 @@ conn_fits ns ports inst s before c r =
       width = ap first_broken (sym (same_checks t.nets ns c c.parts (port_at ports before c.port) (same_widths t.nets ns c.parts two.0.end.each parts))) ∙ three.0.passed;
     }
 
-pub record InstFits (ns : Named Net) (fs : Named Face) (i : At × TInst) : Type 0 where
+pub record InstFits (ns : Named Net) (fs : Named Interface) (i : At × TInst) : Type 0 where
   pub master : is_none (named fs i.0.name) ≡ false
   pub conns : (k : ℕ) (c : TConn) → slice_get i.1.conns k ≡ Some c → ConnFits ns (ports_of (named fs i.0.name)) i.1.name (take k i.1.conns) c
 
-inst_fits : (ns : Named Net) (fs : Named Face) (master : At) (s : Scope) (i : TInst) → Runs step_walk (Extends ns) s (inst_steps (named fs master.name) master i) → InstFits ns fs (master, i)
+inst_fits : (ns : Named Net) (fs : Named Interface) (master : At) (s : Scope) (i : TInst) → Runs step_walk (Extends ns) s (inst_steps (named fs master.name) master i) → InstFits ns fs (master, i)
 inst_fits ns fs master s i r =
     let back = extends_back ns in
     let ports : Named Port = ports_of (named fs master.name) in
@@ -195,7 +195,7 @@ inst_fits ns fs master s i r =
           (after_step s (Places (named fs master.name) master i.name)) [] i.conns one.1;
     }
 
-abbrev pub ItemFits : Named Net → Named Face → Item → Type 0
+abbrev pub ItemFits : Named Net → Named Interface → Item → Type 0
 ItemFits ns fs (Declaration d) = All (λ (n : At). IsDeclared ns n.name) d.names
 ItemFits ns fs (Insts master is) = All (λ (i : TInst). InstFits ns fs (master, i)) is
 
@@ -204,17 +204,17 @@ decl_fits ns s d r =
     all_unmap (StepFits ns) (λ (n : At). Declares n (range_of d)) d.names
     (run_each step_walk (Extends ns) (extends_back ns) (StepFits ns) (step_fits ns) s (decl_steps d) r)
 
-item_fits : (ns : Named Net) (fs : Named Face) (s : Scope) (item : Item) → Runs step_walk (Extends ns) s (item_steps fs item) → ItemFits ns fs item
+item_fits : (ns : Named Net) (fs : Named Interface) (s : Scope) (item : Item) → Runs step_walk (Extends ns) s (item_steps fs item) → ItemFits ns fs item
 item_fits ns fs s (Declaration d) r = decl_fits ns s d r
 item_fits ns fs s (Insts master is) r =
     run_flat step_walk (Extends ns) (extends_back ns) (inst_steps (named fs master.name) master) (λ (i : TInst). InstFits ns fs (master, i)) (inst_fits ns fs master) s is r
 
 -- what holds of a module's text by its nets
-pub record ModuleFits (ns : Named Net) (fs : Named Face) (m : TModule) : Type 0 where
+pub record ModuleFits (ns : Named Net) (fs : Named Interface) (m : TModule) : Type 0 where
   pub header : All (λ (d : Decl). All (λ (n : At). IsDeclared ns n.name) d.names) (header_decls m.header)
   pub items : All (ItemFits ns fs) m.items
 
-pub module_fits : (fs : Named Face) (m : TModule) → first_broken (inner_checks fs m) ≡ None → ModuleFits (nets m) fs m
+pub module_fits : (fs : Named Interface) (m : TModule) → first_broken (inner_checks fs m) ≡ None → ModuleFits (nets m) fs m
 module_fits fs m h =
     let ns : Named Net = nets m in
     let start : Scope = record { nets = []; insts = [] } in
@@ -234,9 +234,9 @@ all_map_from : {X Y : Type 0} (P : Y → Type 0) (f : X → Y) (xs : List X) →
 all_map_from P f [] h = all_none P
 all_map_from P f (x ∷ xs) h = all_cons P (f x) (map f xs) (all_head (λ x. P (f x)) x xs h) (all_map_from P f xs (all_tail (λ x. P (f x)) x xs h))
 
-insts_in_fit : (ns : Named Net) (fs : Named Face) (item : Item) → ItemFits ns fs item → All (InstFits ns fs) (insts_in item)
+insts_in_fit : (ns : Named Net) (fs : Named Interface) (item : Item) → ItemFits ns fs item → All (InstFits ns fs) (insts_in item)
 insts_in_fit ns fs (Declaration d) h = all_none (InstFits ns fs)
 insts_in_fit ns fs (Insts master is) h = all_map_from (InstFits ns fs) (λ (i : TInst). (master, i)) is h
 
-pub insts_fit : (ns : Named Net) (fs : Named Face) (m : TModule) → ModuleFits ns fs m → All (InstFits ns fs) (insts m)
+pub insts_fit : (ns : Named Net) (fs : Named Interface) (m : TModule) → ModuleFits ns fs m → All (InstFits ns fs) (insts m)
 insts_fit ns fs m fits = all_flat (InstFits ns fs) (ItemFits ns fs) insts_in (insts_in_fit ns fs) m.items fits.items

@@ -13,27 +13,27 @@ use Rattle.vlog_read.specs.declared.tree.Decl.{Decl}
 use Rattle.vlog_read.specs.declared.tree.Item.{Item}
 use Rattle.vlog_read.specs.declared.tree.Item.TheVariants.{Decl as Declaration, Insts}
 use Rattle.vlog_read.specs.declared.tree.TModule.{TModule}
-use Rattle.vlog_elab.specs.declared.face.Port.{Port}
-use Rattle.vlog_elab.specs.declared.face.Face.{Face}
+use Rattle.vlog_elab.specs.declared.interface.Port.{Port}
+use Rattle.vlog_elab.specs.declared.interface.Interface.{Interface}
 use Rattle.vlog_elab.specs.declared.said.Said.{Said}
 use Rattle.vlog_elab.specs.declared.scope.Net.{Net}
 use Rattle.vlog_elab.specs.declared.scope.Scope.{Scope}
 use Rattle.flatten_rules.specs.Check.{first_broken}
 use Rattle.vlog_elab.specs.Named.{Named, named, is_there, just_names}
 use Rattle.vlog_elab.specs.Text.{header_names, header_decls, range_of}
-use Rattle.vlog_elab.specs.Faces.{Place, Ranged, Placed, range_places, name_place, decl_places, item_places, places, direction_at, said}
+use Rattle.vlog_elab.specs.Interfaces.{Place, Ranged, Placed, range_places, name_place, decl_places, item_places, places, direction_at, said}
 use Rattle.vlog_elab.specs.Steps.{Step, Declares, decl_steps, item_steps, steps}
 use Rattle.vlog_elab.specs.Connections.{is_implied, step_checks, inner_checks}
 use Rattle.vlog_elab.specs.Table.{name_net}
-use Rattle.vlog_elab.specs.Walk.{at_end}
-use Rattle.vlog_elab.specs.Walks.{header_walk, place_walk, port_walk, after_step, step_walk}
+use Rattle.vlog_elab.specs.inside.Walk.{at_end}
+use Rattle.vlog_elab.specs.inside.Walks.{header_walk, place_walk, port_walk, after_step, step_walk}
 use Rattle.vlog_elab.proofs.Each.{all_none, all_cons, all_head}
 use Rattle.vlog_elab.proofs.Declaring.{said-walk}
 use Rattle.vlog_elab.proofs.Joining.{inner_checks-walk}
 use Rattle.vlog_elab.proofs.Passing.{not_false, unbroken, Runs, run_each, keeps, meets_none}
 use Rattle.vlog_elab.proofs.Finding.{all_named}
 use Rattle.vlog_elab.proofs.Mentions.{mentions}
-use Rattle.vlog_elab.specs.Faces.{port_of, ports}
+use Rattle.vlog_elab.specs.Interfaces.{port_of, ports}
 use Rattle.vlog_elab.specs.Declarations.{header_checks}
 use Rattle.vlog_elab.specs.Steps.{Places, Connects, Uses, Fits}
 use Rattle.vlog_elab.specs.Table.{nets, insts_in, insts}
@@ -126,11 +126,11 @@ decl_directs ns d h =
     All-append (DirectsDeclared ns) (range_places d.range d.names) (map (name_place d.dir (range_of d)) d.names) (range_directs ns d.range d.names)
     (all_map_of (DirectsDeclared ns) (λ (n : At). IsDeclared ns n.name) (name_place d.dir (range_of d)) (name_directs ns (range_of d) d.dir) d.names h)
 
-item_directs : (ns : Named Net) (fs : Named Face) (item : Item) → ItemFits ns fs item → All (DirectsDeclared ns) (item_places item)
+item_directs : (ns : Named Net) (fs : Named Interface) (item : Item) → ItemFits ns fs item → All (DirectsDeclared ns) (item_places item)
 item_directs ns fs (Declaration d) h = decl_directs ns d h
 item_directs ns fs (Insts master is) h = all_cons (DirectsDeclared ns) (Placed master) [] (all_none (λ (e : List ℕ × Port). IsDeclared ns e.0)) (all_none (DirectsDeclared ns))
 
-directions_declared : (ns : Named Net) (fs : Named Face) (m : TModule) → ModuleFits ns fs m → All (λ (e : List ℕ × Port). IsDeclared ns e.0) (said (places m)).directions
+directions_declared : (ns : Named Net) (fs : Named Interface) (m : TModule) → ModuleFits ns fs m → All (λ (e : List ℕ × Port). IsDeclared ns e.0) (said (places m)).directions
 directions_declared ns fs m fits =
     all_flat (λ (e : List ℕ × Port). IsDeclared ns e.0) (DirectsDeclared ns) direction_at (λ p h. h) (places m)
     (All-append (DirectsDeclared ns) (flat_map decl_places (header_decls m.header)) (flat_map item_places m.items)
@@ -145,7 +145,7 @@ pub record PortFits (ns : Named Net) (dirs : Named Port) (n : At) : Type 0 where
   pub found : named ns n.name ≡ Some net
   pub same : net.range ≡ port.range
 
-pub ports_fit : (fs : Named Face) (leaf : Bool) (m : TModule) → PassesInside leaf m → ModuleFits (nets m) fs m → All (PortFits (nets m) (said (places m)).directions) (header_names m.header)
+pub ports_fit : (fs : Named Interface) (leaf : Bool) (m : TModule) → PassesInside leaf m → ModuleFits (nets m) fs m → All (PortFits (nets m) (said (places m)).directions) (header_names m.header)
 ports_fit fs leaf m p fits =
     run_each (port_walk dirs) (λ s. Unit {0}) (λ s x h. tt) (PortFits ns dirs) (λ s n st. at_o n (named dirs n.name) refl (not_false (is_there dirs n.name) (unbroken _ [] st.passed).0)) [] (header_names m.header)
     (record { none = p.in_ports; end = tt })
@@ -218,7 +218,7 @@ leaf_insts m p = at_items m.items (all_front (InLeaf header) (flat_map decl_plac
 -- and the second round has nothing to tell of it
 abbrev DeclaresOnly : Step → Type 0
 DeclaresOnly (Declares n range) = Unit {0}
-DeclaresOnly (Places face master n) = ⊥
+DeclaresOnly (Places interface master n) = ⊥
 DeclaresOnly (Connects ports inst before c) = ⊥
 DeclaresOnly (Uses part) = ⊥
 DeclaresOnly (Fits ports before c) = ⊥
@@ -240,7 +240,7 @@ declares_step s (Declares n range) only h = (
     not_implied : (o : Option Net) → named s.nets n.name ≡ o → is_implied (named s.nets n.name) ≡ false
     not_implied None e = ap is_implied e
     not_implied (Some net) e = ap is_implied e ∙ all_named (λ (e : List ℕ × Net). e.1.implied ≡ false) s.nets n.name net only.declared e
-declares_step s (Places face master n) only h = absurd h
+declares_step s (Places interface master n) only h = absurd h
 declares_step s (Connects ports inst before c) only h = absurd h
 declares_step s (Uses part) only h = absurd h
 declares_step s (Fits ports before c) only h = absurd h
@@ -248,11 +248,11 @@ declares_step s (Fits ports before c) only h = absurd h
 decl_declares : (d : Decl) → All DeclaresOnly (decl_steps d)
 decl_declares d = all_map_each DeclaresOnly (λ (n : At). Declares n (range_of d)) (λ n. tt) d.names
 
-item_declares : (header : Named (Unit {0})) (fs : Named Face) (item : Item) → All (InLeaf header) (item_places item) → All DeclaresOnly (item_steps fs item)
+item_declares : (header : Named (Unit {0})) (fs : Named Interface) (item : Item) → All (InLeaf header) (item_places item) → All DeclaresOnly (item_steps fs item)
 item_declares header fs (Declaration d) h = decl_declares d
 item_declares header fs (Insts master is) h = absurd (all_head (InLeaf header) (Placed master) [] h)
 
-pub leaf_passes : (fs : Named Face) (m : TModule) → PassesInside true m → first_broken (inner_checks fs m) ≡ None
+pub leaf_passes : (fs : Named Interface) (m : TModule) → PassesInside true m → first_broken (inner_checks fs m) ≡ None
 leaf_passes fs m p =
     let header : Named (Unit {0}) = just_names (header_names m.header) in
     let parts = all_front (InLeaf header) (flat_map decl_places (header_decls m.header)) (flat_map item_places m.items) (all_in_leaf m p) in

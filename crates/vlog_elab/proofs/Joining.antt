@@ -7,15 +7,15 @@ use Rattle.vlog_read.specs.declared.tree.At.{At}
 use Rattle.vlog_read.specs.declared.tree.TConn.{TConn}
 use Rattle.vlog_read.specs.declared.tree.TModule.{TModule}
 use Rattle.vlog_elab.specs.declared.fault.ElabFault.{ElabFault}
-use Rattle.vlog_elab.specs.declared.face.Port.{Port}
-use Rattle.vlog_elab.specs.declared.face.Face.{Face}
+use Rattle.vlog_elab.specs.declared.interface.Port.{Port}
+use Rattle.vlog_elab.specs.declared.interface.Interface.{Interface}
 use Rattle.vlog_elab.specs.declared.scope.Scope.{Scope}
 use Rattle.flatten_rules.specs.Check.{first_broken}
 use Rattle.vlog_elab.specs.Named.{Named, firsts}
 use Rattle.vlog_elab.specs.Steps.{Step, Connects, Uses, Fits, conn_steps, steps, net_at, inst_at, met}
 use Rattle.vlog_elab.specs.Connections.{port_named, ports_named, mixes, conn_checks, inner_checks}
-use Rattle.vlog_elab.specs.Walk.{first_fault, at_end, Found, Passed, Fails, Walks, Checks}
-use Rattle.vlog_elab.specs.Walks.{with_new, after_step, step_walk}
+use Rattle.vlog_elab.specs.inside.Walk.{first_fault, at_end, Found, Passed, Fails, Walks, Checks}
+use Rattle.vlog_elab.specs.inside.Walks.{with_new, after_step, step_walk}
 use Rattle.vlog_elab.proofs.Naming.{firsts-append}
 use Rattle.vlog_elab.proofs.Walking.{or-none, found-along, fails-before, fails-then, walks-then, flat_map-push, walked, known-at_end}
 
@@ -76,13 +76,13 @@ met-more before step =
     rw (ns, flat_map-push inst_at before step) refl
 
 -- the checks of a module, by its walk
-pub inner_checks-walk : (faces : Named Face) (m : TModule) → first_broken (inner_checks faces m) ≡ first_fault step_walk (record { nets = []; insts = [] }) (steps faces m)
-inner_checks-walk faces m = walked step_walk met met-more [] (steps faces m)
+pub inner_checks-walk : (interfaces : Named Interface) (m : TModule) → first_broken (inner_checks interfaces m) ≡ first_fault step_walk (record { nets = []; insts = [] }) (steps interfaces m)
+inner_checks-walk interfaces m = walked step_walk met met-more [] (steps interfaces m)
 
 pub met-walk : (before : List Step) → met before ≡ at_end step_walk (record { nets = []; insts = [] }) before
 met-walk before = known-at_end step_walk met met-more [] before
 
 -- what the walk through a module gives, as its checks
-pub inner-give : {T : Type 0} (faces : Named Face) (m : TModule) (s t : Scope) (r : Result T ElabFault) → s ≡ record { nets = []; insts = [] } → Walks step_walk s (steps faces m) r t → Checks (inner_checks faces m) r
-inner-give faces m s t (Ok v) e p = inner_checks-walk faces m ∙ (rw (← e) p.none)
-inner-give faces m s t (Err fault) e q = found-along _ _ fault (inner_checks-walk faces m) (rw (← e) q.found)
+pub inner-give : {T : Type 0} (interfaces : Named Interface) (m : TModule) (s t : Scope) (r : Result T ElabFault) → s ≡ record { nets = []; insts = [] } → Walks step_walk s (steps interfaces m) r t → Checks (inner_checks interfaces m) r
+inner-give interfaces m s t (Ok v) e p = inner_checks-walk interfaces m ∙ (rw (← e) p.none)
+inner-give interfaces m s t (Err fault) e q = found-along _ _ fault (inner_checks-walk interfaces m) (rw (← e) q.found)

@@ -9,15 +9,15 @@ use Rattle.std.proofs.lemmas.List.Folds.{list_any-append}
 use Rattle.emh_base.specs.declared.plain.PModule.{PModule}
 use Rattle.emh_base.specs.declared.plain.Plain.{Plain}
 use Rattle.vlog_read.specs.declared.tree.TModule.{TModule}
-use Rattle.vlog_elab.specs.declared.face.Face.{Face}
-use Rattle.vlog_elab.specs.declared.face.Known.{Known}
+use Rattle.vlog_elab.specs.declared.interface.Interface.{Interface}
+use Rattle.vlog_elab.specs.declared.interface.Known.{Known}
 use Rattle.flatten_rules.specs.Check.{first_broken, each_after}
 use Rattle.flatten_rules.proofs.FirstBroken.{each_after-append}
 use Rattle.vlog_elab.specs.Named.{Named, is_there, numbered}
-use Rattle.vlog_elab.specs.Faces.{has_module, added, faces, face, row_face, known}
+use Rattle.vlog_elab.specs.Interfaces.{has_module, added, interfaces, interface, row_face, known}
 use Rattle.vlog_elab.specs.Declarations.{declaration_checks}
-use Rattle.vlog_elab.specs.Walk.{first_fault, at_end}
-use Rattle.vlog_elab.specs.Walks.{module_walk, after_module}
+use Rattle.vlog_elab.specs.inside.Walk.{first_fault, at_end}
+use Rattle.vlog_elab.specs.inside.Walks.{module_walk, after_module}
 use Rattle.vlog_elab.proofs.Numbering.{numbered-append}
 use Rattle.vlog_elab.proofs.Naming.{or-false, one_or_not, same_name}
 use Rattle.vlog_elab.proofs.Walking.{walked, known-at_end}
@@ -49,18 +49,18 @@ among_added M before (m ∷ ms) q =
     ∙ ap (λ ms. has_module M ms q) (append_assoc before (m ∷ []) ms)
 
 -- the names of rows and of added modules, as they are found
-there-rows : (rows : List PModule) (es : Named Face) (q : List ℕ) → is_there (map row_face rows ++ es) q ≡ (list_any (λ (m : PModule). bytes_eq q m.name) rows || is_there es q)
+there-rows : (rows : List PModule) (es : Named Interface) (q : List ℕ) → is_there (map row_face rows ++ es) q ≡ (list_any (λ (m : PModule). bytes_eq q m.name) rows || is_there es q)
 there-rows [] es q = refl
 there-rows (r ∷ rows) es q = elim (bytes_eq q r.name) as (λ b. is_some (cond b (Some (row_face r).1) (lookup (bytes_eq q) (map row_face rows ++ es))) ≡ ((b || list_any (λ (m : PModule). bytes_eq q m.name) rows) || is_there es q)) [ true ↦ refl | false ↦ there-rows rows es q ]
 
-there-added : (all_leaf : Bool) (n : ℕ) (ms : List TModule) (q : List ℕ) → is_there (numbered (face all_leaf) n ms) q ≡ list_any (λ (m : TModule). bytes_eq q m.name.name) ms
+there-added : (all_leaf : Bool) (n : ℕ) (ms : List TModule) (q : List ℕ) → is_there (numbered (interface all_leaf) n ms) q ≡ list_any (λ (m : TModule). bytes_eq q m.name.name) ms
 there-added all_leaf n [] q = refl
-there-added all_leaf n (m ∷ ms) q = elim (bytes_eq q m.name.name) as (λ b. is_some (cond b (Some (face all_leaf n m).1) (lookup (bytes_eq q) (numbered (face all_leaf) (n + 1) ms))) ≡ (b || list_any (λ (m : TModule). bytes_eq q m.name.name) ms)) [ true ↦ refl | false ↦ there-added all_leaf (n + 1) ms q ]
+there-added all_leaf n (m ∷ ms) q = elim (bytes_eq q m.name.name) as (λ b. is_some (cond b (Some (interface all_leaf n m).1) (lookup (bytes_eq q) (numbered (interface all_leaf) (n + 1) ms))) ≡ (b || list_any (λ (m : TModule). bytes_eq q m.name.name) ms)) [ true ↦ refl | false ↦ there-added all_leaf (n + 1) ms q ]
 
--- a name is among the faces where a module has it
-pub there-faces : (M : Plain) (all_leaf : Bool) (ms : List TModule) (q : List ℕ) → is_there (faces M all_leaf ms) q ≡ has_module M ms q
-there-faces M all_leaf ms q =
-    there-rows M.modules (numbered (face all_leaf) M.next_module (added M ms)) q
+-- a name is among the interfaces where a module has it
+pub there-interfaces : (M : Plain) (all_leaf : Bool) (ms : List TModule) (q : List ℕ) → is_there (interfaces M all_leaf ms) q ≡ has_module M ms q
+there-interfaces M all_leaf ms q =
+    there-rows M.modules (numbered (interface all_leaf) M.next_module (added M ms)) q
     ∙ ap (λ b. list_any (λ (m : PModule). bytes_eq q m.name) M.modules || b) (there-added all_leaf M.next_module (added M ms) q)
     ∙ ap (λ b. b || list_any (λ (m : TModule). bytes_eq q m.name.name) (added M ms)) (sym (or-false (list_any (λ (m : PModule). bytes_eq q m.name) M.modules)))
     ∙ among_added M [] ms q
@@ -74,7 +74,7 @@ added-more M before m =
 -- what is known by the table's modules and those that are added
 abbrev known_by : Plain → Bool → List TModule → Known
 known_by M all_leaf new = record {
-  faces = map row_face M.modules ++ numbered (face all_leaf) M.next_module new;
+  interfaces = map row_face M.modules ++ numbered (interface all_leaf) M.next_module new;
   next_module = M.next_module + length new;
 }
 
@@ -83,20 +83,20 @@ pub known-more : (M : Plain) (all_leaf : Bool) (before : List TModule) (m : TMod
 known-more M all_leaf before m =
     ap (known_by M all_leaf) (added-more M before m)
     ∙ at_h (has_module M before m.name.name)
-    ∙ ap (λ (h : Bool). cond h k one_more) (sym (there-faces M all_leaf before m.name.name))
+    ∙ ap (λ (h : Bool). cond h k one_more) (sym (there-interfaces M all_leaf before m.name.name))
   where
     k : Known
     k = known M all_leaf before
 
     one_more : Known
-    one_more = record { faces = k.faces ++ face all_leaf k.next_module m ∷ []; next_module = k.next_module + 1 }
+    one_more = record { interfaces = k.interfaces ++ interface all_leaf k.next_module m ∷ []; next_module = k.next_module + 1 }
 
     at_h : (h : Bool) → known_by M all_leaf (added M before ++ cond h [] (m ∷ [])) ≡ cond h k one_more
     at_h true = ap (known_by M all_leaf) (append-nil (added M before))
     at_h false =
-        let es : faces M all_leaf before ++ face all_leaf k.next_module m ∷ [] ≡ map row_face M.modules ++ numbered (face all_leaf) M.next_module (added M before ++ m ∷ [])
-        = append_assoc (map row_face M.modules) (numbered (face all_leaf) M.next_module (added M before)) (face all_leaf k.next_module m ∷ [])
-        ∙ ap (λ es. map row_face M.modules ++ es) (sym (numbered-append (face all_leaf) M.next_module (added M before) (m ∷ []))) in
+        let es : interfaces M all_leaf before ++ interface all_leaf k.next_module m ∷ [] ≡ map row_face M.modules ++ numbered (interface all_leaf) M.next_module (added M before ++ m ∷ [])
+        = append_assoc (map row_face M.modules) (numbered (interface all_leaf) M.next_module (added M before)) (interface all_leaf k.next_module m ∷ [])
+        ∙ ap (λ es. map row_face M.modules ++ es) (sym (numbered-append (interface all_leaf) M.next_module (added M before) (m ∷ []))) in
         let n : M.next_module + length (added M before ++ m ∷ []) ≡ M.next_module + length (added M before) + 1 = rw (length-append (added M before) (m ∷ [])) (grind arith) in
         rw (es, n) refl
 
@@ -108,7 +108,7 @@ pub known-walk : (M : Plain) (all_leaf : Bool) (ms : List TModule) → known M a
 known-walk M all_leaf ms = known-at_end (module_walk all_leaf) (known M all_leaf) (known-more M all_leaf) [] ms
 
 -- what is known at first
-pub known-none : (M : Plain) (all_leaf : Bool) → known M all_leaf [] ≡ record { faces = map row_face M.modules; next_module = M.next_module }
+pub known-none : (M : Plain) (all_leaf : Bool) → known M all_leaf [] ≡ record { interfaces = map row_face M.modules; next_module = M.next_module }
 known-none M all_leaf =
     let n : M.next_module + 0 ≡ M.next_module = omega arith in
     rw (append-nil (map row_face M.modules), n) refl

@@ -4,7 +4,7 @@ use Rattle.std.specs.Prelude.{if◌then◌else◌}
 use Rattle.std.specs.List.{flat_map}
 use Rattle.std.proofs.lemmas.List.{map-append}
 use Rattle.vlog_elab.specs.Named.{Named, is_there, firsts}
-use Rattle.vlog_elab.specs.Walks.{with_new}
+use Rattle.vlog_elab.specs.inside.Walks.{with_new}
 use Rattle.vlog_elab.proofs.Naming.{firsts-append}
 use Rattle.vlog_elab.proofs.Walking.{one_more, flat_map-push}
 

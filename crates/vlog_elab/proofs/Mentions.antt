@@ -14,8 +14,8 @@ use Rattle.vlog_read.specs.declared.tree.TInst.{TInst}
 use Rattle.vlog_read.specs.declared.tree.Item.{Item}
 use Rattle.vlog_read.specs.declared.tree.Item.TheVariants.{Decl as Declaration, Insts}
 use Rattle.vlog_read.specs.declared.tree.TModule.{TModule}
-use Rattle.vlog_elab.specs.declared.face.Port.{Port}
-use Rattle.vlog_elab.specs.declared.face.Face.{Face}
+use Rattle.vlog_elab.specs.declared.interface.Port.{Port}
+use Rattle.vlog_elab.specs.declared.interface.Interface.{Interface}
 use Rattle.vlog_elab.specs.declared.scope.Net.{Net}
 use Rattle.vlog_elab.specs.declared.scope.Scope.{Scope}
 use Rattle.flatten_rules.specs.Check.{first_broken, each_after}
@@ -24,8 +24,8 @@ use Rattle.vlog_elab.specs.Text.{header_decls, range_of}
 use Rattle.vlog_elab.specs.Steps.{Step, Declares, Places, Connects, Uses, Fits, decl_steps, conn_steps, inst_steps, item_steps, steps, net_at, inst_at, met}
 use Rattle.vlog_elab.specs.Connections.{step_checks, inner_checks}
 use Rattle.vlog_elab.specs.Table.{part_net, name_net, decl_nets, conn_nets, inst_nets, item_nets, nets, insts_in, insts}
-use Rattle.vlog_elab.specs.Walk.{at_end}
-use Rattle.vlog_elab.specs.Walks.{with_new, after_step, step_walk}
+use Rattle.vlog_elab.specs.inside.Walk.{at_end}
+use Rattle.vlog_elab.specs.inside.Walks.{with_new, after_step, step_walk}
 use Rattle.vlog_elab.proofs.Each.{all_none, pairs_none}
 use Rattle.vlog_elab.proofs.Naming.{there-append, there-one, same_name}
 use Rattle.vlog_elab.proofs.Joining.{inner_checks-walk, met-walk}
@@ -69,11 +69,11 @@ conns_mention ports inst before (c ∷ cs) =
     ∙ ap (λ es. es ++ flat_map net_at (each_after (conn_steps ports inst) (before ++ c ∷ []) cs)) (conn_mentions ports inst before c)
     ∙ ap (λ es. conn_nets c ++ es) (conns_mention ports inst (before ++ c ∷ []) cs)
 
-item_mentions : (fs : Named Face) (item : Item) → flat_map net_at (item_steps fs item) ≡ item_nets item
+item_mentions : (fs : Named Interface) (item : Item) → flat_map net_at (item_steps fs item) ≡ item_nets item
 item_mentions fs (Declaration d) = names_mention (range_of d) d.names
 item_mentions fs (Insts master is) = flat_flat net_at (inst_steps (named fs master.name) master) inst_nets (λ i. conns_mention _ i.name [] i.conns) is
 
-pub steps_mention : (fs : Named Face) (m : TModule) → flat_map net_at (steps fs m) ≡ mentions m
+pub steps_mention : (fs : Named Interface) (m : TModule) → flat_map net_at (steps fs m) ≡ mentions m
 steps_mention fs m =
     flat_map-append net_at (flat_map decl_steps (header_decls m.header)) (flat_map (item_steps fs) m.items)
     ∙ ap (λ es. es ++ flat_map net_at (flat_map (item_steps fs) m.items)) (flat_flat net_at decl_steps decl_nets (λ d. names_mention (range_of d) d.names) (header_decls m.header))
@@ -100,14 +100,14 @@ conns_place ports inst before (c ∷ cs) =
     (flat_map-append inst_at (map Uses c.parts) (Fits ports before c ∷ []) ∙ append-nil (flat_map inst_at (map Uses c.parts)) ∙ parts_place c.parts)
     ∙ conns_place ports inst (before ++ c ∷ []) cs
 
-insts_place : (face : Option Face) (master : At) (is : List TInst) → flat_map inst_at (flat_map (inst_steps face master) is) ≡ map inst_name (map (λ (i : TInst). (master, i)) is)
-insts_place face master [] = refl
-insts_place face master (i ∷ is) =
-    flat_map-append inst_at (inst_steps face master i) (flat_map (inst_steps face master) is)
-    ∙ ap (λ es. ((i.name.name, tt) ∷ es) ++ flat_map inst_at (flat_map (inst_steps face master) is)) (conns_place _ i.name [] i.conns)
-    ∙ ap (λ es. inst_name (master, i) ∷ es) (insts_place face master is)
+insts_place : (interface : Option Interface) (master : At) (is : List TInst) → flat_map inst_at (flat_map (inst_steps interface master) is) ≡ map inst_name (map (λ (i : TInst). (master, i)) is)
+insts_place interface master [] = refl
+insts_place interface master (i ∷ is) =
+    flat_map-append inst_at (inst_steps interface master i) (flat_map (inst_steps interface master) is)
+    ∙ ap (λ es. ((i.name.name, tt) ∷ es) ++ flat_map inst_at (flat_map (inst_steps interface master) is)) (conns_place _ i.name [] i.conns)
+    ∙ ap (λ es. inst_name (master, i) ∷ es) (insts_place interface master is)
 
-item_places : (fs : Named Face) (item : Item) → flat_map inst_at (item_steps fs item) ≡ map inst_name (insts_in item)
+item_places : (fs : Named Interface) (item : Item) → flat_map inst_at (item_steps fs item) ≡ map inst_name (insts_in item)
 item_places fs (Declaration d) = names_place (range_of d) d.names
 item_places fs (Insts master is) = insts_place (named fs master.name) master is
 
@@ -119,7 +119,7 @@ none_flat : {X Y : Type 0} (f : X → List Y) → ((x : X) → f x ≡ []) → (
 none_flat f is [] = refl
 none_flat f is (x ∷ xs) = ap (λ ys. ys ++ flat_map f xs) (is x) ∙ none_flat f is xs
 
-pub steps_place : (fs : Named Face) (m : TModule) → flat_map inst_at (steps fs m) ≡ map inst_name (insts m)
+pub steps_place : (fs : Named Interface) (m : TModule) → flat_map inst_at (steps fs m) ≡ map inst_name (insts m)
 steps_place fs m =
     flat_map-append inst_at (flat_map decl_steps (header_decls m.header)) (flat_map (item_steps fs) m.items)
     ∙ ap (λ es. es ++ flat_map inst_at (flat_map (item_steps fs) m.items))
@@ -128,7 +128,7 @@ steps_place fs m =
     ∙ sym (map_flat inst_name insts_in m.items)
 
 -- what is met at the end of a module
-pub at_last : (fs : Named Face) (m : TModule) → at_end step_walk (record { nets = []; insts = [] }) (steps fs m) ≡ record { nets = nets m; insts = map inst_name (insts m) }
+pub at_last : (fs : Named Interface) (m : TModule) → at_end step_walk (record { nets = []; insts = [] }) (steps fs m) ≡ record { nets = nets m; insts = map inst_name (insts m) }
 at_last fs m =
     let end : met (steps fs m) ≡ at_end step_walk (record { nets = []; insts = [] }) (steps fs m) = met-walk (steps fs m) in
     sym end ∙ (rw (steps_mention fs m, steps_place fs m) refl)
@@ -160,7 +160,7 @@ tidy_net s e t none = at_b (is_there s.nets e.0)
 
 tidy_step : (s : Scope) (x : Step) → Tidy s → first_broken (step_checks s x) ≡ None → Tidy (after_step s x)
 tidy_step s (Declares n range) t h = tidy_net s (n.name, record { range = range; implied = false }) t (unbroken _ [] (unbroken _ (_ ∷ []) h).1).0
-tidy_step s (Places face master n) t h =
+tidy_step s (Places interface master n) t h =
     let both = or_none (is_there s.nets n.name) (is_there s.insts n.name) (unbroken _ [] (unbroken _ (_ ∷ []) h).1).0 in
     record {
       insts = apart_push s.insts (n.name, tt) t.insts both.1;
@@ -173,7 +173,7 @@ tidy_step s (Uses (Bits n range)) t h = tidy_same s t
 tidy_step s (Uses (Lit size value)) t h = tidy_same s t
 tidy_step s (Fits ports before c) t h = tidy_same s t
 
-pub names_tidy : (fs : Named Face) (m : TModule) → first_broken (inner_checks fs m) ≡ None → Tidy (record { nets = nets m; insts = map inst_name (insts m) })
+pub names_tidy : (fs : Named Interface) (m : TModule) → first_broken (inner_checks fs m) ≡ None → Tidy (record { nets = nets m; insts = map inst_name (insts m) })
 names_tidy fs m h =
     let start : Tidy (record { nets = []; insts = [] }) = record { insts = pairs_none Differ; across = all_none (λ (i : List ℕ × Unit {0}). is_there {V = Net} [] i.0 ≡ false) } in
     subst Tidy (at_last fs m) (keeps step_walk Tidy tidy_step (record { nets = []; insts = [] }) (steps fs m) start (sym (inner_checks-walk fs m) ∙ h))

@@ -15,8 +15,8 @@ use Rattle.std.specs.Bool.{Decides}
 use Rattle.flatten_rules.specs.Check.{each_after}
 use Rattle.flatten_rules.proofs.FirstBroken.{each_after-append}
 use Rattle.vlog_elab.specs.Named.{place_of, named, is_there, firsts}
-use Rattle.vlog_elab.specs.Walks.{with_new}
-use Rattle.vlog_elab.specs.Agree.{texts, Agrees}
+use Rattle.vlog_elab.specs.inside.Walks.{with_new}
+use Rattle.vlog_elab.specs.inside.Agree.{texts, Agrees}
 
 -- the place of the first that passes, after one more at the end
 pub position_from-push : {X : Type 0} (t : X → Bool) (n : ℕ) (xs : List X) (x : X)

@@ -15,7 +15,7 @@ use Rattle.vlog_elab.specs.declared.fault.ElabFault.{ElabFault}
 use Rattle.vlog_elab.specs.declared.fault.ElabFault.TheVariants.{Fault, NoMemory}
 use Rattle.vlog_elab.specs.declared.fault.ElabKind.TheVariants as kind
 use Rattle.flatten_rules.specs.Check.{first_broken}
-use Rattle.vlog_elab.specs.Faces.{added}
+use Rattle.vlog_elab.specs.Interfaces.{added}
 use Rattle.vlog_elab.specs.Table.{built}
 use Rattle.vlog_elab.specs.Elaboration.{checks, Elaborates, HasFault, IsRecursive, UnlessNoMemory}
 use Rattle.vlog_elab.specs.Law.{EachHasAtMostOneAnswer}

@@ -8,7 +8,7 @@ use Rattle.vlog_elab.specs.declared.fault.ElabFault.{ElabFault}
 use Rattle.flatten_rules.specs.Check.{first_broken, each_after}
 use Rattle.flatten_rules.proofs.FirstBroken.{first_broken-append}
 use Rattle.vlog_elab.specs.Check.{Check}
-use Rattle.vlog_elab.specs.Walk.{Walk, first_fault, at_end}
+use Rattle.vlog_elab.specs.inside.Walk.{Walk, first_fault, at_end}
 use Rattle.vlog_elab.proofs.Each.{all_none, all_cons}
 use Rattle.vlog_elab.proofs.Walking.{first_fault-append, at_end-append}
 

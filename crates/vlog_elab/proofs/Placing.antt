@@ -4,7 +4,7 @@ use Rattle.std.specs.BTreeMap.{BTreeMap, get_by}
 use Rattle.std.specs.Cmp.Lexicographic.{slice_cmp}
 use Rattle.std.specs.Ordering.{nat_cmp}
 use Rattle.std.specs.Map.{lookup}
-use Rattle.vlog_elab.specs.Placed.{number_of, place_by, FirstIs}
+use Rattle.vlog_elab.specs.inside.Placed.{number_of, place_by, FirstIs}
 use Rattle.vlog_elab.proofs.Naming.{same_name}
 
 nat_eq-refl : (n : ℕ) → nat_eq n n ≡ true

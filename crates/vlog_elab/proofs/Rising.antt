@@ -7,13 +7,13 @@ use Rattle.emh_base.specs.declared.plain.PModule.{PModule}
 use Rattle.emh_base.specs.declared.plain.Plain.{Plain}
 use Rattle.flatten_rules.specs.Sound.{IsSound, IsSoundModule}
 use Rattle.vlog_read.specs.declared.tree.TModule.{TModule}
-use Rattle.vlog_elab.specs.declared.face.Face.{Face}
+use Rattle.vlog_elab.specs.declared.interface.Interface.{Interface}
 use Rattle.vlog_elab.specs.Named.{Named, numbered}
 use Rattle.vlog_elab.specs.Table.{row, inst_row, insts, nets}
 use Rattle.vlog_elab.proofs.Each.{all_weaker, all_numbered, pairs_append, numbered_from, numbered_rise}
 
 -- the modules of a sound table, and numbered ones after them
-pub modules_rise : (M : Plain) (fs : Named Face) (all_leaf : Bool) (new : List TModule) → IsSound M
+pub modules_rise : (M : Plain) (fs : Named Interface) (all_leaf : Bool) (new : List TModule) → IsSound M
     → AllPairs (λ (a b : PModule). a.id.0 < b.id.0) (M.modules ++ numbered (row fs all_leaf) M.next_module new)
 modules_rise M fs all_leaf new sound =
     let number : PModule → ℕ = λ m. m.id.0 in
@@ -24,10 +24,10 @@ modules_rise M fs all_leaf new sound =
     (λ m below. all_weaker (λ (b : PModule). M.next_module ≤ b.id.0) (λ (b : PModule). m.id.0 < b.id.0) rows (λ b above. omega (arith, below, above)) from) sound.below)
 
 -- the instances of a module that is built
-pub insts_rise : (fs : Named Face) (all_leaf : Bool) (id : ℕ) (m : TModule) → AllPairs (λ (a b : PInst). a.id.0 < b.id.0) (row fs all_leaf id m).insts
+pub insts_rise : (fs : Named Interface) (all_leaf : Bool) (id : ℕ) (m : TModule) → AllPairs (λ (a b : PInst). a.id.0 < b.id.0) (row fs all_leaf id m).insts
 insts_rise fs all_leaf id m = numbered_rise (λ (i : PInst). i.id.0) (inst_row fs (nets m)) (λ n i. refl) 0 (insts m)
 
-pub all_insts_rise : (M : Plain) (fs : Named Face) (all_leaf : Bool) (new : List TModule) → IsSound M
+pub all_insts_rise : (M : Plain) (fs : Named Interface) (all_leaf : Bool) (new : List TModule) → IsSound M
     → All (λ (m : PModule). AllPairs (λ (a b : PInst). a.id.0 < b.id.0) m.insts) (M.modules ++ numbered (row fs all_leaf) M.next_module new)
 all_insts_rise M fs all_leaf new sound =
     All-append (λ (m : PModule). AllPairs (λ (a b : PInst). a.id.0 < b.id.0) m.insts) M.modules (numbered (row fs all_leaf) M.next_module new)

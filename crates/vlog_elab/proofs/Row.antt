@@ -19,13 +19,13 @@ use Rattle.flatten_rules.specs.Sound.{IsAllowed, HasMaster, IsCell, IsSoundModul
 use Rattle.vlog_read.specs.declared.tree.At.{At}
 use Rattle.vlog_read.specs.declared.tree.TInst.{TInst}
 use Rattle.vlog_read.specs.declared.tree.TModule.{TModule}
-use Rattle.vlog_elab.specs.declared.face.Port.{Port}
-use Rattle.vlog_elab.specs.declared.face.Face.{Face}
+use Rattle.vlog_elab.specs.declared.interface.Port.{Port}
+use Rattle.vlog_elab.specs.declared.interface.Interface.{Interface}
 use Rattle.vlog_elab.specs.declared.scope.Net.{Net}
 use Rattle.flatten_rules.specs.Check.{first_broken}
 use Rattle.vlog_elab.specs.Named.{Named, named, is_there, place_of, just_names, numbered}
 use Rattle.vlog_elab.specs.Text.{is_leaf, header_names}
-use Rattle.vlog_elab.specs.Faces.{places, said, port_of as port_said, ports, face}
+use Rattle.vlog_elab.specs.Interfaces.{places, said, port_of as port_said, ports, interface}
 use Rattle.vlog_elab.specs.Connections.{inner_checks}
 use Rattle.vlog_elab.specs.Table.{nets, insts, net_id, net_row, port_row, inst_row, row}
 use Rattle.vlog_elab.specs.Counters.{HasCounters}
@@ -53,7 +53,7 @@ map_numbered f g make is n [] = refl
 map_numbered f g make is n (x ∷ xs) = ap (λ y. y ∷ map f (numbered make (n + 1) xs)) (is n x) ∙ ap (λ ys. g x ∷ ys) (map_numbered f g make is (n + 1) xs)
 
 -- a name that the nets have is a net's of the row
-pub net_by_name : (fs : Named Face) (all_leaf : Bool) (id : ℕ) (m : TModule) (q : List ℕ) (net : Net) → named (nets m) q ≡ Some net
+pub net_by_name : (fs : Named Interface) (all_leaf : Bool) (id : ℕ) (m : TModule) (q : List ℕ) (net : Net) → named (nets m) q ≡ Some net
     → (k : ℕ) × (net_id (nets m) q ≡ record { 0 = k }) × (slice_get (nets m) k ≡ Some (q, net)) × (net_of (row fs all_leaf id m) (net_id (nets m) q) ≡ Some (net_row k (q, net)))
 net_by_name fs all_leaf id m q net found =
     let place = place_named (nets m) q net found in
@@ -61,7 +61,7 @@ net_by_name fs all_leaf id m q net found =
     let is : net_id (nets m) q ≡ record { 0 = place.0 } = ap make place.1 in
     (place.0, is, place.2, ap (net_of (row fs all_leaf id m)) is ∙ found_by_number (λ (y : PNet). y.id.0) net_row (λ n x. refl) (nets m) place.0 (q, net) place.2)
 
-pub has_named : (fs : Named Face) (all_leaf : Bool) (id : ℕ) (m : TModule) → HasNamed (row fs all_leaf id m) (nets m)
+pub has_named : (fs : Named Interface) (all_leaf : Bool) (id : ℕ) (m : TModule) → HasNamed (row fs all_leaf id m) (nets m)
 has_named fs all_leaf id m = λ q net found. ap width_of (net_by_name fs all_leaf id m q net found).3
 
 -- Names.
@@ -72,7 +72,7 @@ Other a b = a ≢ b
 all_swap : {X Y : Type 0} (R : X → Y → Type 0) (xs : List X) (ys : List Y) → All (λ y. All (λ x. R x y) xs) ys → All (λ x. All (R x) ys) xs
 all_swap R xs ys h = λ k d lt i e within. h i e within k d lt
 
-names_differ : (fs : Named Face) (all_leaf : Bool) (id : ℕ) (m : TModule) → first_broken (inner_checks fs m) ≡ None
+names_differ : (fs : Named Interface) (all_leaf : Bool) (id : ℕ) (m : TModule) → first_broken (inner_checks fs m) ≡ None
     → IsDistinct bytes_eq (map (λ (net : PNet). net.name) (row fs all_leaf id m).nets ++ map (λ (inst : PInst). inst.name) (row fs all_leaf id m).insts)
 names_differ fs all_leaf id m inner =
     let ns : Named Net = nets m in
@@ -96,7 +96,7 @@ names_differ fs all_leaf id m inner =
 abbrev HasNet : Named Net → List ℕ × Port → Type 0
 HasNet ns p = (net : Net) × (named ns p.0 ≡ Some net) × (net.range ≡ p.1.range)
 
-ports_have_nets : (fs : Named Face) (leaf : Bool) (m : TModule) → PassesInside leaf m → ModuleFits (nets m) fs m → All (HasNet (nets m)) (ports m)
+ports_have_nets : (fs : Named Interface) (leaf : Bool) (m : TModule) → PassesInside leaf m → ModuleFits (nets m) fs m → All (HasNet (nets m)) (ports m)
 ports_have_nets fs leaf m p fits =
     let dirs : Named Port = (said (places m)).directions in
     all_map_of (HasNet (nets m)) (PortFits (nets m) dirs) (port_said dirs)
@@ -106,7 +106,7 @@ ports_have_nets fs leaf m p fits =
     own : (n : At) (port : Port) → named (said (places m)).directions n.name ≡ Some port → unwrap_or (named (said (places m)).directions n.name) (record { dir = port.dir; range = None }) ≡ (port_said (said (places m)).directions n).1
     own n port e = rw e refl
 
-same_net : (fs : Named Face) (all_leaf : Bool) (id : ℕ) (m : TModule) (a b : List ℕ × Port) → HasNet (nets m) a → HasNet (nets m) b → net_id (nets m) a.0 ≡ net_id (nets m) b.0 → a.0 ≡ b.0
+same_net : (fs : Named Interface) (all_leaf : Bool) (id : ℕ) (m : TModule) (a b : List ℕ × Port) → HasNet (nets m) a → HasNet (nets m) b → net_id (nets m) a.0 ≡ net_id (nets m) b.0 → a.0 ≡ b.0
 same_net fs all_leaf id m a b one two same =
     let x = net_by_name fs all_leaf id m a.0 one.0 one.1 in
     let y = net_by_name fs all_leaf id m b.0 two.0 two.1 in
@@ -116,9 +116,9 @@ same_net fs all_leaf id m a b one two same =
     let name : Option (List ℕ × Net) → List ℕ = λ o. (unwrap_or o (a.0, one.0)).0 in
     ap name both
 
--- A module's face.
+-- A module's interface.
 
-pub face_of : (fs : Named Face) (all_leaf : Bool) (id : ℕ) (m : TModule) → PassesInside (is_leaf all_leaf m) m → first_broken (inner_checks fs m) ≡ None → IsFaceOf (face all_leaf id m).1 (row fs all_leaf id m)
+pub face_of : (fs : Named Interface) (all_leaf : Bool) (id : ℕ) (m : TModule) → PassesInside (is_leaf all_leaf m) m → first_broken (inner_checks fs m) ≡ None → IsFaceOf (interface all_leaf id m).1 (row fs all_leaf id m)
 face_of fs all_leaf id m p inner = record {
   many = simp length-map;
   apart = ports_apart (is_leaf all_leaf m) m p;
@@ -131,7 +131,7 @@ face_of fs all_leaf id m p inner = record {
 
 -- A leaf.
 
-leaf_cell : (fs : Named Face) (all_leaf : Bool) (id : ℕ) (m : TModule) → PassesInside true m → IsCell (row fs all_leaf id m)
+leaf_cell : (fs : Named Interface) (all_leaf : Bool) (id : ℕ) (m : TModule) → PassesInside true m → IsCell (row fs all_leaf id m)
 leaf_cell fs all_leaf id m p = record {
   insts = rw (leaf_insts m p) refl;
   nets = λ k d lt.
@@ -185,8 +185,8 @@ leaf_cell fs all_leaf id m p = record {
 
 -- The row.
 
-pub row_sound : (M : Plain) (fs : Named Face) (all_leaf : Bool) (id : ℕ) (m : TModule) → PassesInside (is_leaf all_leaf m) m → first_broken (inner_checks fs m) ≡ None
-    → ((q : List ℕ) (face : Face) → named fs q ≡ Some face → HasModule M face) → HasCounters (row fs all_leaf id m) → IsSoundModule M (row fs all_leaf id m)
+pub row_sound : (M : Plain) (fs : Named Interface) (all_leaf : Bool) (id : ℕ) (m : TModule) → PassesInside (is_leaf all_leaf m) m → first_broken (inner_checks fs m) ≡ None
+    → ((q : List ℕ) (interface : Interface) → named fs q ≡ Some interface → HasModule M interface) → HasCounters (row fs all_leaf id m) → IsSoundModule M (row fs all_leaf id m)
 row_sound M fs all_leaf id m p inner known counters =
     let ns : Named Net = nets m in
     let R : PModule = row fs all_leaf id m in

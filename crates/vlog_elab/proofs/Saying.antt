@@ -19,7 +19,7 @@ use Rattle.vlog_read.specs.declared.tree.TInst.{TInst}
 use Rattle.vlog_read.specs.declared.tree.Item.{Item}
 use Rattle.vlog_read.specs.declared.tree.Item.TheVariants.{Decl as Declaration, Insts}
 use Rattle.vlog_read.specs.declared.tree.TModule.{TModule}
-use Rattle.vlog_elab.specs.declared.face.Port.{Port}
+use Rattle.vlog_elab.specs.declared.interface.Port.{Port}
 use Rattle.vlog_elab.specs.declared.said.Said.{Said}
 use Rattle.vlog_elab.specs.declared.scope.Net.{Net}
 use Rattle.vlog_elab.specs.declared.fault.ElabKind.TheVariants as kind
@@ -27,11 +27,11 @@ use Rattle.flatten_rules.specs.Check.{first_broken}
 use Rattle.vlog_elab.specs.Check.{check}
 use Rattle.vlog_elab.specs.Named.{Named, named, is_there, just_names}
 use Rattle.vlog_elab.specs.Text.{header_names, header_decls}
-use Rattle.vlog_elab.specs.Faces.{Place, Ranged, Directed, Wired, Placed, decl_places, item_places, places, direction_at, wire_at, said, same_range}
+use Rattle.vlog_elab.specs.Interfaces.{Place, Ranged, Directed, Wired, Placed, decl_places, item_places, places, direction_at, wire_at, said, same_range}
 use Rattle.vlog_elab.specs.Declarations.{place_checks, inside_checks, differs_from_direction, differs_from_wire}
 use Rattle.vlog_elab.specs.Table.{part_net, decl_nets, conn_nets, inst_nets, item_nets}
-use Rattle.vlog_elab.specs.Walk.{first_fault}
-use Rattle.vlog_elab.specs.Walks.{header_walk, place_walk, port_walk, after_place}
+use Rattle.vlog_elab.specs.inside.Walk.{first_fault}
+use Rattle.vlog_elab.specs.inside.Walks.{header_walk, place_walk, port_walk, after_place}
 use Rattle.vlog_elab.proofs.Each.{all_none, all_cons, all_head, all_tail}
 use Rattle.vlog_elab.proofs.Naming.{same_name, bytes_eq-refl}
 use Rattle.vlog_elab.proofs.Declaring.{inside-walks}

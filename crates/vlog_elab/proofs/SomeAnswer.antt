@@ -15,7 +15,7 @@ use Rattle.vlog_elab.specs.declared.fault.ElabFault.TheVariants.{Fault}
 use Rattle.vlog_elab.specs.declared.fault.ElabKind.TheVariants as kind
 use Rattle.flatten_rules.specs.Check.{first_broken}
 use Rattle.vlog_elab.specs.Named.{numbered}
-use Rattle.vlog_elab.specs.Faces.{added, faces}
+use Rattle.vlog_elab.specs.Interfaces.{added, interfaces}
 use Rattle.vlog_elab.specs.Table.{row, built}
 use Rattle.vlog_elab.specs.Elaboration.{Elaborates, HasFault, checks}
 use Rattle.vlog_elab.specs.Law.{EachHasSomeAnswer}
@@ -26,19 +26,19 @@ module _ (M : Plain) (l : Bool) (tree : Tree) (sound : IsSound M) where
   abbrev new : List TModule
   new = added M tree.modules
 
-  made : (built M l tree).modules ≡ M.modules ++ numbered (row (faces M l tree.modules) l) M.next_module (added M tree.modules)
+  made : (built M l tree).modules ≡ M.modules ++ numbered (row (interfaces M l tree.modules) l) M.next_module (added M tree.modules)
   unfolding built
   made = refl
 
   rise : AllPairs (λ (a b : PModule). a.id.0 < b.id.0) (built M l tree).modules
   rise =
       subst (λ (rows : List PModule). AllPairs (λ (a b : PModule). a.id.0 < b.id.0) rows) (sym made)
-      (modules_rise M (faces M l tree.modules) l (added M tree.modules) sound)
+      (modules_rise M (interfaces M l tree.modules) l (added M tree.modules) sound)
 
   insts : All (λ (m : PModule). AllPairs (λ (a b : PInst). a.id.0 < b.id.0) m.insts) (built M l tree).modules
   insts =
       subst (λ (rows : List PModule). All (λ (m : PModule). AllPairs (λ (a b : PInst). a.id.0 < b.id.0) m.insts) rows) (sym made)
-      (all_insts_rise M (faces M l tree.modules) l (added M tree.modules) sound)
+      (all_insts_rise M (interfaces M l tree.modules) l (added M tree.modules) sound)
 
   -- the third round
   by_cycle : first_broken (checks M l tree) ≡ None → (found : Option ℕ) → IsFirstOnCycle (built M l tree) (length M.modules) found
@@ -46,7 +46,7 @@ module _ (M : Plain) (l : Bool) (tree : Tree) (sound : IsSound M) where
   by_cycle passed None none = inl (built M l tree, record { passed = passed; no_cycle = none; table = refl })
   by_cycle passed (Some at) found =
       let within : at < length M.modules + length (added M tree.modules)
-      = place-within M l (faces M l tree.modules) tree.modules (built M l tree).modules (OnCycle (built M l tree)) at made found.1 in
+      = place-within M l (interfaces M l tree.modules) tree.modules (built M l tree).modules (OnCycle (built M l tree)) at made found.1 in
       let k : ℕ = at - length M.modules in
       let here : at ≡ length M.modules + k = omega (arith, found.0) in
       let item = item-there (added M tree.modules) k (omega (arith, within, here, found.0)) in

@@ -12,12 +12,12 @@ use Rattle.emh_base.specs.declared.plain.Conn.{Conn}
 use Rattle.emh_base.specs.declared.plain.Src.{Src}
 use Rattle.vlog_read.specs.declared.tree.At.{At}
 use Rattle.vlog_read.specs.declared.tree.TConn.{TConn}
-use Rattle.vlog_elab.specs.declared.face.Port.{Port}
+use Rattle.vlog_elab.specs.declared.interface.Port.{Port}
 use Rattle.vlog_elab.specs.declared.scope.Net.{Net}
 use Rattle.vlog_elab.specs.Named.{Named, named, place_of, is_there}
 use Rattle.vlog_elab.specs.Connections.{port_named, net_range}
 use Rattle.vlog_elab.specs.Table.{net_id, literal_bits, tie_of, is_to, conn_to, conn_of, conns_of}
-use Rattle.vlog_elab.specs.Pins.{pin_at, pins_from}
+use Rattle.vlog_elab.specs.inside.Pins.{pin_at, pins_from}
 use Rattle.vlog_elab.proofs.Naming.{value-at, there-None}
 use Rattle.vlog_elab.proofs.Numbering.{numbered_more}
 

@@ -28,19 +28,19 @@ use Rattle.flatten_rules.proofs.Cycling.{place-at}
 use Rattle.flatten_rules.proofs.Rising.{distinct-front}
 use Rattle.vlog_read.specs.declared.tree.TModule.{TModule}
 use Rattle.vlog_read.specs.declared.tree.Tree.{Tree}
-use Rattle.vlog_elab.specs.declared.face.Port.{Port}
-use Rattle.vlog_elab.specs.declared.face.Face.{Face}
-use Rattle.vlog_elab.specs.declared.face.Known.{Known}
+use Rattle.vlog_elab.specs.declared.interface.Port.{Port}
+use Rattle.vlog_elab.specs.declared.interface.Interface.{Interface}
+use Rattle.vlog_elab.specs.declared.interface.Known.{Known}
 use Rattle.flatten_rules.specs.Check.{first_broken, each_after}
 use Rattle.vlog_elab.specs.Named.{Named, named, is_there, numbered}
 use Rattle.vlog_elab.specs.Text.{is_leaf}
-use Rattle.vlog_elab.specs.Faces.{has_module, added, ports, face, faces, known, row_port_on, row_port, row_face}
+use Rattle.vlog_elab.specs.Interfaces.{has_module, added, ports, interface, interfaces, known, row_port_on, row_port, row_face}
 use Rattle.vlog_elab.specs.Declarations.{name_check, inside_checks, entry_checks, module_checks, declaration_checks}
 use Rattle.vlog_elab.specs.Connections.{inner_checks, connection_checks}
 use Rattle.vlog_elab.specs.Table.{row, built}
 use Rattle.vlog_elab.specs.Elaboration.{checks}
-use Rattle.vlog_elab.specs.Walk.{at_end}
-use Rattle.vlog_elab.specs.Walks.{module_walk, with_module, after_module}
+use Rattle.vlog_elab.specs.inside.Walk.{at_end}
+use Rattle.vlog_elab.specs.inside.Walks.{module_walk, with_module, after_module}
 use Rattle.vlog_elab.specs.Law.{StaysSound}
 use Rattle.vlog_elab.specs.Elaboration.{Elaborates}
 use Rattle.vlog_elab.specs.Counters.{HasCounters, IsCountable}
@@ -59,11 +59,11 @@ use Rattle.vlog_elab.proofs.Connected.{IsFaceOf, HasModule, find_place}
 use Rattle.vlog_elab.proofs.Row.{Other, pairs_map, face_of, row_sound}
 
 -- A module that passes.
-pub record Passes (fs : Named Face) (all_leaf : Bool) (m : TModule) : Type 0 where
+pub record Passes (fs : Named Interface) (all_leaf : Bool) (m : TModule) : Type 0 where
   pub inside : PassesInside (is_leaf all_leaf m) m
   pub inner : first_broken (inner_checks fs m) ≡ None
 
-passes : (fs : Named Face) (all_leaf : Bool) (m : TModule) → first_broken (inside_checks (is_leaf all_leaf m) m) ≡ None → first_broken (if is_leaf all_leaf m then [] else inner_checks fs m) ≡ None → Passes fs all_leaf m
+passes : (fs : Named Interface) (all_leaf : Bool) (m : TModule) → first_broken (inside_checks (is_leaf all_leaf m) m) ≡ None → first_broken (if is_leaf all_leaf m then [] else inner_checks fs m) ≡ None → Passes fs all_leaf m
 passes fs all_leaf m one two =
     let p : PassesInside (is_leaf all_leaf m) m = passes_inside (is_leaf all_leaf m) m one in
     record { inside = p; inner = at_b (is_leaf all_leaf m) p two }
@@ -72,9 +72,9 @@ passes fs all_leaf m one two =
     at_b true p h = leaf_passes fs m p
     at_b false p h = h
 
-all_pass : (M : Plain) (all_leaf : Bool) (tree : Tree) → first_broken (checks M all_leaf tree) ≡ None → All (Passes (faces M all_leaf tree.modules) all_leaf) tree.modules
+all_pass : (M : Plain) (all_leaf : Bool) (tree : Tree) → first_broken (checks M all_leaf tree) ≡ None → All (Passes (interfaces M all_leaf tree.modules) all_leaf) tree.modules
 all_pass M all_leaf tree h =
-    let fs : Named Face = faces M all_leaf tree.modules in
+    let fs : Named Interface = interfaces M all_leaf tree.modules in
     let both = sym (checks-rounds M all_leaf tree) ∙ h in
     let one : All (λ (m : TModule). first_broken (inside_checks (is_leaf all_leaf m) m) ≡ None) tree.modules
     = each_passes (λ before m. module_checks all_leaf (known M all_leaf before) m) (λ (m : TModule). first_broken (inside_checks (is_leaf all_leaf m) m) ≡ None)
@@ -101,29 +101,29 @@ all_added P M before (m ∷ ms) h =
 
 -- Names of modules.
 
-with_module_apart : (leaf : Bool) (k : Known) (m : TModule) (ps : Named Port) → AllPairs Differ k.faces → AllPairs Differ (with_module leaf k m ps).faces
-with_module_apart leaf k m ps h = at_b (is_there k.faces m.name.name) refl
+with_module_apart : (leaf : Bool) (k : Known) (m : TModule) (ps : Named Port) → AllPairs Differ k.interfaces → AllPairs Differ (with_module leaf k m ps).interfaces
+with_module_apart leaf k m ps h = at_b (is_there k.interfaces m.name.name) refl
   where
-    one : List ℕ × Face
+    one : List ℕ × Interface
     one = (m.name.name, record { id = record { 0 = k.next_module }; leaf = leaf; ports = ps })
 
     more : Known
-    more = record { faces = k.faces ++ one ∷ []; next_module = k.next_module + 1 }
+    more = record { interfaces = k.interfaces ++ one ∷ []; next_module = k.next_module + 1 }
 
-    at_b : (b : Bool) → is_there k.faces m.name.name ≡ b → AllPairs (Differ {V = Face}) (cond b k more).faces
+    at_b : (b : Bool) → is_there k.interfaces m.name.name ≡ b → AllPairs (Differ {V = Interface}) (cond b k more).interfaces
     at_b true e = h
-    at_b false e = apart_push k.faces one h e
+    at_b false e = apart_push k.interfaces one h e
 
-end_apart : (all_leaf : Bool) (k : Known) (ms : List TModule) → AllPairs Differ k.faces → AllPairs Differ (at_end (module_walk all_leaf) k ms).faces
+end_apart : (all_leaf : Bool) (k : Known) (ms : List TModule) → AllPairs Differ k.interfaces → AllPairs Differ (at_end (module_walk all_leaf) k ms).interfaces
 end_apart all_leaf k [] h = h
 end_apart all_leaf k (m ∷ ms) h = end_apart all_leaf (after_module all_leaf k m) ms (with_module_apart (is_leaf all_leaf m) k m (ports m) h)
 
-faces_apart : (M : Plain) (all_leaf : Bool) (ms : List TModule) → IsSound M → AllPairs Differ (faces M all_leaf ms)
+faces_apart : (M : Plain) (all_leaf : Bool) (ms : List TModule) → IsSound M → AllPairs Differ (interfaces M all_leaf ms)
 faces_apart M all_leaf ms sound =
     let names : AllPairs Other (map (λ (m : PModule). m.name) M.modules) = AllPairs-from_IsDistinct bytes_eq-Decides (map (λ (m : PModule). m.name) M.modules) sound.names in
     let start : AllPairs Differ (map row_face M.modules) = pairs_map_both Other Differ (λ (m : PModule). m.name) row_face (λ a b h. h) M.modules names in
-    let first_known : AllPairs Differ (known M all_leaf []).faces = subst (λ (k : Known). AllPairs Differ k.faces) (sym (known-none M all_leaf)) start in
-    subst (λ (k : Known). AllPairs Differ k.faces) (sym (known-walk M all_leaf ms)) (end_apart all_leaf (known M all_leaf []) ms first_known)
+    let first_known : AllPairs Differ (known M all_leaf []).interfaces = subst (λ (k : Known). AllPairs Differ k.interfaces) (sym (known-none M all_leaf)) start in
+    subst (λ (k : Known). AllPairs Differ k.interfaces) (sym (known-walk M all_leaf ms)) (end_apart all_leaf (known M all_leaf []) ms first_known)
 
 map_after : {X Y Z : Type 0} (f : Y → Z) (g : X → Y) (h : X → Z) → ((x : X) → f (g x) ≡ h x) → (xs : List X) → map f (map g xs) ≡ map h xs
 map_after f g h is [] = refl
@@ -133,19 +133,19 @@ same_numbered : {X Y W Z : Type 0} (f : Y → Z) (g : W → Z) (make : ℕ → X
 same_numbered f g make other is n [] = refl
 same_numbered f g make other is n (x ∷ xs) = ap (λ z. z ∷ map f (numbered make (n + 1) xs)) (is n x) ∙ ap (λ zs. g (other n x) ∷ zs) (same_numbered f g make other is (n + 1) xs)
 
-modules_apart : (M : Plain) (all_leaf : Bool) (ms : List TModule) (fs : Named Face) → IsSound M
+modules_apart : (M : Plain) (all_leaf : Bool) (ms : List TModule) (fs : Named Interface) → IsSound M
     → IsDistinct bytes_eq (map (λ (m : PModule). m.name) (M.modules ++ numbered (row fs all_leaf) M.next_module (added M ms)))
 modules_apart M all_leaf ms fs sound =
     let new : List TModule = added M ms in
     let name : PModule → List ℕ = λ m. m.name in
-    let face_name : List ℕ × Face → List ℕ = λ e. e.0 in
-    let es : Named Face = map row_face M.modules ++ numbered (face all_leaf) M.next_module new in
+    let face_name : List ℕ × Interface → List ℕ = λ e. e.0 in
+    let es : Named Interface = map row_face M.modules ++ numbered (interface all_leaf) M.next_module new in
     let all : AllPairs Other (map face_name es) = pairs_map Other face_name es (faces_apart M all_leaf ms sound) in
     let same : map name (M.modules ++ numbered (row fs all_leaf) M.next_module new) ≡ map face_name es
     = map-append name M.modules (numbered (row fs all_leaf) M.next_module new)
     ∙ ap (λ ns. ns ++ map name (numbered (row fs all_leaf) M.next_module new)) (sym (map_after face_name row_face name (λ m. refl) M.modules))
-    ∙ ap (λ ns. map face_name (map row_face M.modules) ++ ns) (same_numbered name face_name (row fs all_leaf) (face all_leaf) (λ n m. refl) M.next_module new)
-    ∙ sym (map-append face_name (map row_face M.modules) (numbered (face all_leaf) M.next_module new)) in
+    ∙ ap (λ ns. map face_name (map row_face M.modules) ++ ns) (same_numbered name face_name (row fs all_leaf) (interface all_leaf) (λ n m. refl) M.next_module new)
+    ∙ sym (map-append face_name (map row_face M.modules) (numbered (interface all_leaf) M.next_module new)) in
     rw same (IsDistinct-from_AllPairs bytes_eq-Decides (map face_name es) all)
 
 -- The modules of the table that was there.
@@ -249,18 +249,18 @@ all_numbered_with P Q C make other f n (x ∷ xs) c h =
 all_both : {X : Type 0} (P Q R : X → Type 0) → ((x : X) → P x → Q x → R x) → (xs : List X) → All P xs → All Q xs → All R xs
 all_both P Q R f xs p q = λ k d lt. f (get_or xs k d) (p k d lt) (q k d lt)
 
-known_faces : (M B : Plain) (fs : Named Face) (all_leaf : Bool) (new : List TModule) → IsSound M → B.modules ≡ M.modules ++ numbered (row fs all_leaf) M.next_module new
-    → All (Passes fs all_leaf) new → All (λ (e : List ℕ × Face). HasModule B e.1) (map row_face M.modules ++ numbered (face all_leaf) M.next_module new)
+known_faces : (M B : Plain) (fs : Named Interface) (all_leaf : Bool) (new : List TModule) → IsSound M → B.modules ≡ M.modules ++ numbered (row fs all_leaf) M.next_module new
+    → All (Passes fs all_leaf) new → All (λ (e : List ℕ × Interface). HasModule B e.1) (map row_face M.modules ++ numbered (interface all_leaf) M.next_module new)
 known_faces M B fs all_leaf new sound made passed =
     let rows : List PModule = numbered (row fs all_leaf) M.next_module new in
     let Own : PModule → Type 0 = λ m. module_of B m.id ≡ Some m in
     let rise : AllPairs (λ (a b : PModule). a.id.0 < b.id.0) B.modules = subst (λ (ms : List PModule). AllPairs (λ (a b : PModule). a.id.0 < b.id.0) ms) (sym made) (modules_rise M fs all_leaf new sound) in
     let own = all_front Own M.modules rows (subst (λ (ms : List PModule). All Own ms) made (own_modules B rise)) in
-    let Has : List ℕ × Face → Type 0 = λ e. HasModule B e.1 in
-    All-append Has (map row_face M.modules) (numbered (face all_leaf) M.next_module new)
+    let Has : List ℕ × Interface → Type 0 = λ e. HasModule B e.1 in
+    All-append Has (map row_face M.modules) (numbered (interface all_leaf) M.next_module new)
     (all_map_of Has (λ (m : PModule). Has (row_face m)) row_face (λ m h. h) M.modules
     (all_both Own (IsSoundModule M) (λ (m : PModule). Has (row_face m)) (λ m o s. record { master = m; found = o; is = old_face M m s }) M.modules own.0 sound.modules))
-    (all_numbered_with Own Has (Passes fs all_leaf) (row fs all_leaf) (face all_leaf)
+    (all_numbered_with Own Has (Passes fs all_leaf) (row fs all_leaf) (interface all_leaf)
     (λ n m p o. record { master = row fs all_leaf n m; found = o; is = face_of fs all_leaf n m p.inside p.inner }) M.next_module new passed own.1)
 
 -- No cycle.
@@ -296,16 +296,16 @@ no_cycle M B rows sound made none m cycle =
 
 -- The table.
 
-table_sound : (M B : Plain) (all_leaf : Bool) (ms : List TModule) → IsSound M → B.modules ≡ M.modules ++ numbered (row (faces M all_leaf ms) all_leaf) M.next_module (added M ms)
-    → B.next_module ≡ M.next_module + length (added M ms) → All (Passes (faces M all_leaf ms) all_leaf) ms → IsFirstOnCycle B (length M.modules) None
+table_sound : (M B : Plain) (all_leaf : Bool) (ms : List TModule) → IsSound M → B.modules ≡ M.modules ++ numbered (row (interfaces M all_leaf ms) all_leaf) M.next_module (added M ms)
+    → B.next_module ≡ M.next_module + length (added M ms) → All (Passes (interfaces M all_leaf ms) all_leaf) ms → IsFirstOnCycle B (length M.modules) None
     → All HasCounters B.modules → IsCounter B.next_module → IsSound B
 table_sound M B all_leaf ms sound made next passed none counters counter =
-    let fs : Named Face = faces M all_leaf ms in
+    let fs : Named Interface = interfaces M all_leaf ms in
     let new : List TModule = added M ms in
     let rows : List PModule = numbered (row fs all_leaf) M.next_module new in
     let new_passed : All (Passes fs all_leaf) new = all_added (Passes fs all_leaf) M [] ms passed in
-    let has : All (λ (e : List ℕ × Face). HasModule B e.1) fs = known_faces M B fs all_leaf new sound made new_passed in
-    let masters : (q : List ℕ) (f : Face) → named fs q ≡ Some f → HasModule B f = λ q f e. all_named (λ (e : List ℕ × Face). HasModule B e.1) fs q f has e in
+    let has : All (λ (e : List ℕ × Interface). HasModule B e.1) fs = known_faces M B fs all_leaf new sound made new_passed in
+    let masters : (q : List ℕ) (f : Interface) → named fs q ≡ Some f → HasModule B f = λ q f e. all_named (λ (e : List ℕ × Interface). HasModule B e.1) fs q f has e in
     let end : ℕ = M.next_module + length new in
     let below : All (λ (m : PModule). m.id.0 < end) (M.modules ++ rows)
     = All-append (λ (m : PModule). m.id.0 < end) M.modules rows
@@ -324,7 +324,7 @@ table_sound M B all_leaf ms sound made next passed none counters counter =
       no_cycle = no_cycle M B rows sound made none;
     }
 
-built_modules : (M : Plain) (all_leaf : Bool) (tree : Tree) → (built M all_leaf tree).modules ≡ M.modules ++ numbered (row (faces M all_leaf tree.modules) all_leaf) M.next_module (added M tree.modules)
+built_modules : (M : Plain) (all_leaf : Bool) (tree : Tree) → (built M all_leaf tree).modules ≡ M.modules ++ numbered (row (interfaces M all_leaf tree.modules) all_leaf) M.next_module (added M tree.modules)
 unfolding built
 built_modules M all_leaf tree = refl
 
@@ -343,7 +343,7 @@ built_sound M all_leaf tree plain sound is counters =
 
 pub stays_sound : StaysSound
 stays_sound M all_leaf tree plain sound few is =
-    let fs : Named Face = faces M all_leaf tree.modules in
+    let fs : Named Interface = interfaces M all_leaf tree.modules in
     let new : List TModule = added M tree.modules in
     let rows : List PModule = numbered (row fs all_leaf) M.next_module new in
     let counted : All HasCounters rows

@@ -9,7 +9,7 @@ use Rattle.vlog_elab.specs.declared.fault.ElabFault.TheVariants.{Fault, NoMemory
 use Rattle.flatten_rules.specs.Check.{first_broken, each_after}
 use Rattle.flatten_rules.proofs.FirstBroken.{first_broken-append, each_after-append}
 use Rattle.vlog_elab.specs.Check.{Check}
-use Rattle.vlog_elab.specs.Walk.{Walk, first_fault, at_end, Found, Passed, Fails, Walks}
+use Rattle.vlog_elab.specs.inside.Walk.{Walk, first_fault, at_end, Found, Passed, Fails, Walks}
 
 pub or-none : (o : Option ElabFault) → option_or o None ≡ o
 or-none None = refl

@@ -10,15 +10,15 @@ use Rattle.vlog_read.specs.declared.tree.Part.TheVariants.{Name, Bit, Bits, Lit}
 use Rattle.vlog_read.specs.declared.tree.TConn.{TConn}
 use Rattle.vlog_read.specs.declared.tree.TModule.{TModule}
 use Rattle.vlog_elab.specs.declared.fault.ElabKind.TheVariants as kind
-use Rattle.vlog_elab.specs.declared.face.Port.{Port}
-use Rattle.vlog_elab.specs.declared.face.Face.{Face}
+use Rattle.vlog_elab.specs.declared.interface.Port.{Port}
+use Rattle.vlog_elab.specs.declared.interface.Interface.{Interface}
 use Rattle.vlog_elab.specs.declared.scope.Net.{Net}
 use Rattle.vlog_elab.specs.declared.scope.Scope.{Scope}
 use Rattle.flatten_rules.specs.Check.{each_after}
 use Rattle.vlog_elab.specs.Check.{Check, check, check_at}
 use Rattle.vlog_elab.specs.Named.{Named, named, place_of, is_there}
 use Rattle.vlog_elab.specs.Text.{is_leaf}
-use Rattle.vlog_elab.specs.Faces.{faces}
+use Rattle.vlog_elab.specs.Interfaces.{interfaces}
 use Rattle.vlog_elab.specs.Steps.{Step, Declares, Places, Connects, Uses, Fits, steps, met}
 
 abbrev pub is_implied : Option Net → Bool
@@ -117,8 +117,8 @@ step_checks s (Declares n range) =
     check kind.LateDeclaration n (is_implied (named s.nets n.name))
     ∷ check kind.NameTaken n (is_there s.insts n.name)
     ∷ []
-step_checks s (Places face master n) =
-    check kind.UnknownModule master (is_none face)
+step_checks s (Places interface master n) =
+    check kind.UnknownModule master (is_none interface)
     ∷ check kind.NameTaken n (is_there s.nets n.name || is_there s.insts n.name)
     ∷ []
 step_checks s (Connects ports inst before c) = conn_checks ports inst before c c.port
@@ -126,10 +126,10 @@ step_checks s (Uses part) = part_checks s part
 step_checks s (Fits ports before c) = width_checks s.nets c c.parts (port_at ports before c.port)
 
 -- the checks of a module, each after what was met before it
-abbrev pub inner_checks : Named Face → TModule → List Check
-inner_checks faces m = each_after (λ before step. step_checks (met before) step) [] (steps faces m)
+abbrev pub inner_checks : Named Interface → TModule → List Check
+inner_checks interfaces m = each_after (λ before step. step_checks (met before) step) [] (steps interfaces m)
 
 -- modules that aren't leaves; masters are looked for in the table with all modules of the text
 abbrev pub connection_checks : Plain → Bool → List TModule → List Check
 connection_checks M all_leaf modules =
-    flat_map (λ m. if is_leaf all_leaf m then [] else inner_checks (faces M all_leaf modules) m) modules
+    flat_map (λ m. if is_leaf all_leaf m then [] else inner_checks (interfaces M all_leaf modules) m) modules

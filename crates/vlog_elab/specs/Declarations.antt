@@ -6,23 +6,23 @@ use Rattle.flatten_rules.specs.Lookup.{width}
 use Rattle.vlog_read.specs.declared.tree.At.{At}
 use Rattle.vlog_read.specs.declared.tree.TModule.{TModule}
 use Rattle.vlog_elab.specs.declared.fault.ElabKind.TheVariants as kind
-use Rattle.vlog_elab.specs.declared.face.Port.{Port}
-use Rattle.vlog_elab.specs.declared.face.Face.{Face}
-use Rattle.vlog_elab.specs.declared.face.Known.{Known}
+use Rattle.vlog_elab.specs.declared.interface.Port.{Port}
+use Rattle.vlog_elab.specs.declared.interface.Interface.{Interface}
+use Rattle.vlog_elab.specs.declared.interface.Known.{Known}
 use Rattle.vlog_elab.specs.declared.said.Said.{Said}
 use Rattle.flatten_rules.specs.Check.{each_after}
 use Rattle.vlog_elab.specs.Check.{Check, check, check_at}
 use Rattle.vlog_elab.specs.Named.{Named, named, is_there, just_names}
 use Rattle.vlog_elab.specs.Text.{is_leaf, header_names}
-use Rattle.vlog_elab.specs.Faces.{Place, Ranged, Directed, Wired, Placed, places, said, ports, known, same_range, same_ports}
+use Rattle.vlog_elab.specs.Interfaces.{Place, Ranged, Directed, Wired, Placed, places, said, ports, known, same_range, same_ports}
 
 -- a module of that name is there, and one of the two isn't a leaf
-abbrev pub is_taken : Bool → Option Face → Bool
+abbrev pub is_taken : Bool → Option Interface → Bool
 is_taken leaf None = false
 is_taken leaf (Some there) = not (there.leaf && leaf)
 
 -- a module of that name is there, and its ports aren't the same
-abbrev pub has_other_ports : Named Port → Option Face → Bool
+abbrev pub has_other_ports : Named Port → Option Interface → Bool
 has_other_ports ps None = false
 has_other_ports ps (Some there) = not (same_ports there.ports ps)
 
@@ -76,13 +76,13 @@ inside_checks leaf m =
 
 -- a module of that name is there, and one of the two isn't a leaf
 abbrev pub name_check : Bool → Known → TModule → Check
-name_check leaf before m = check kind.NameTaken m.name (is_taken leaf (named before.faces m.name.name))
+name_check leaf before m = check kind.NameTaken m.name (is_taken leaf (named before.interfaces m.name.name))
 
 -- a leaf of that name is there, and has other ports; the module is to be added, and no id is left
 abbrev pub entry_checks : Known → Named Port → TModule → List Check
 entry_checks before ps m =
-    check kind.NameTaken m.name (has_other_ports ps (named before.faces m.name.name))
-    ∷ check kind.TooManyModules m.name (not (is_there before.faces m.name.name) && before.next_module == 4294967295)
+    check kind.NameTaken m.name (has_other_ports ps (named before.interfaces m.name.name))
+    ∷ check kind.TooManyModules m.name (not (is_there before.interfaces m.name.name) && before.next_module == 4294967295)
     ∷ []
 
 -- the checks of a module, after what is known of those before it

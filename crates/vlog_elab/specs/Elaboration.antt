@@ -8,7 +8,7 @@ use Rattle.vlog_elab.specs.declared.fault.ElabFault.{ElabFault}
 use Rattle.vlog_elab.specs.declared.fault.ElabFault.TheVariants.{Fault, NoMemory}
 use Rattle.flatten_rules.specs.Check.{first_broken}
 use Rattle.vlog_elab.specs.Check.{Check}
-use Rattle.vlog_elab.specs.Faces.{added}
+use Rattle.vlog_elab.specs.Interfaces.{added}
 use Rattle.vlog_elab.specs.Declarations.{declaration_checks}
 use Rattle.vlog_elab.specs.Connections.{connection_checks}
 use Rattle.vlog_elab.specs.Table.{built}

@@ -12,8 +12,8 @@ use Rattle.vlog_read.specs.declared.tree.TInst.{TInst}
 use Rattle.vlog_read.specs.declared.tree.Item.{Item}
 use Rattle.vlog_read.specs.declared.tree.Item.TheVariants.{Decl as Declaration, Insts}
 use Rattle.vlog_read.specs.declared.tree.TModule.{TModule}
-use Rattle.vlog_elab.specs.declared.face.Port.{Port}
-use Rattle.vlog_elab.specs.declared.face.Face.{Face}
+use Rattle.vlog_elab.specs.declared.interface.Port.{Port}
+use Rattle.vlog_elab.specs.declared.interface.Interface.{Interface}
 use Rattle.vlog_elab.specs.declared.scope.Net.{Net}
 use Rattle.vlog_elab.specs.declared.scope.Scope.{Scope}
 use Rattle.flatten_rules.specs.Check.{each_after}
@@ -25,7 +25,7 @@ pub data Step : Type 0 where
   -- a declaration of a name
   Declares : At → Option Range → Step
   -- an instance of what the table has for the master's name
-  Places : Option Face → At → At → Step
+  Places : Option Interface → At → At → Step
   -- a connection of an instance, where the master has these ports, after these connections
   Connects : Named Port → At → List TConn → TConn → Step
   -- a part of its expression
@@ -36,28 +36,28 @@ pub data Step : Type 0 where
 abbrev pub decl_steps : Decl → List Step
 decl_steps d = map (λ n. Declares n (range_of d)) d.names
 
-abbrev pub ports_of : Option Face → Named Port
+abbrev pub ports_of : Option Interface → Named Port
 ports_of None = []
-ports_of (Some face) = face.ports
+ports_of (Some interface) = interface.ports
 
 abbrev pub conn_steps : Named Port → At → List TConn → TConn → List Step
 conn_steps ports inst before c = Connects ports inst before c ∷ map Uses c.parts ++ Fits ports before c ∷ []
 
-abbrev pub inst_steps : Option Face → At → TInst → List Step
-inst_steps face master i = Places face master i.name ∷ each_after (conn_steps (ports_of face) i.name) [] i.conns
+abbrev pub inst_steps : Option Interface → At → TInst → List Step
+inst_steps interface master i = Places interface master i.name ∷ each_after (conn_steps (ports_of interface) i.name) [] i.conns
 
-abbrev pub item_steps : Named Face → Item → List Step
-item_steps faces (Declaration d) = decl_steps d
-item_steps faces (Insts master insts) = flat_map (inst_steps (named faces master.name) master) insts
+abbrev pub item_steps : Named Interface → Item → List Step
+item_steps interfaces (Declaration d) = decl_steps d
+item_steps interfaces (Insts master insts) = flat_map (inst_steps (named interfaces master.name) master) insts
 
 -- a header's declarations, and then the items in order; a header of bare names mentions no net
-abbrev pub steps : Named Face → TModule → List Step
-steps faces m = flat_map decl_steps (header_decls m.header) ++ flat_map (item_steps faces) m.items
+abbrev pub steps : Named Interface → TModule → List Step
+steps interfaces m = flat_map decl_steps (header_decls m.header) ++ flat_map (item_steps interfaces) m.items
 
 -- the net that a step mentions: a declared one, or one by a name alone in a connection, which then has one bit
 abbrev pub net_at : Step → Named Net
 net_at (Declares n range) = (n.name, record { range = range; implied = false }) ∷ []
-net_at (Places face master n) = []
+net_at (Places interface master n) = []
 net_at (Connects ports inst before c) = []
 net_at (Uses (Name n)) = (n.name, record { range = None; implied = true }) ∷ []
 net_at (Uses (Bit n index)) = []
@@ -68,7 +68,7 @@ net_at (Fits ports before c) = []
 -- the instance that a step mentions
 abbrev pub inst_at : Step → Named (Unit {0})
 inst_at (Declares n range) = []
-inst_at (Places face master n) = (n.name, tt) ∷ []
+inst_at (Places interface master n) = (n.name, tt) ∷ []
 inst_at (Connects ports inst before c) = []
 inst_at (Uses part) = []
 inst_at (Fits ports before c) = []

@@ -24,12 +24,12 @@ use Rattle.vlog_read.specs.declared.tree.Item.{Item}
 use Rattle.vlog_read.specs.declared.tree.Item.TheVariants.{Decl as Declaration, Insts}
 use Rattle.vlog_read.specs.declared.tree.TModule.{TModule}
 use Rattle.vlog_read.specs.declared.tree.Tree.{Tree}
-use Rattle.vlog_elab.specs.declared.face.Port.{Port}
-use Rattle.vlog_elab.specs.declared.face.Face.{Face}
+use Rattle.vlog_elab.specs.declared.interface.Port.{Port}
+use Rattle.vlog_elab.specs.declared.interface.Interface.{Interface}
 use Rattle.vlog_elab.specs.declared.scope.Net.{Net}
 use Rattle.vlog_elab.specs.Named.{Named, named, place_of, is_there, firsts, numbered}
 use Rattle.vlog_elab.specs.Text.{is_leaf, header_decls, range_of}
-use Rattle.vlog_elab.specs.Faces.{ports, added, faces}
+use Rattle.vlog_elab.specs.Interfaces.{ports, added, interfaces}
 use Rattle.vlog_elab.specs.Steps.{ports_of}
 use Rattle.vlog_elab.specs.Connections.{net_range, port_named}
 
@@ -109,9 +109,9 @@ conn_to (c ∷ cs) place port = if is_some c.port then find (is_to port) (c ∷ 
 abbrev pub conns_of : Named Net → Named Port → List TConn → List Conn
 conns_of ns ps conns = numbered (λ place port. conn_of ns (conn_to conns place port.0)) 0 ps
 
-abbrev pub master_id : Option Face → ModId
+abbrev pub master_id : Option Interface → ModId
 master_id None = record { 0 = 0 }
-master_id (Some face) = face.id
+master_id (Some interface) = interface.id
 
 -- the instances of a module in order, each with its master's name
 abbrev pub insts_in : Item → List (At × TInst)
@@ -121,7 +121,7 @@ insts_in (Insts master insts) = map (λ i. (master, i)) insts
 abbrev pub insts : TModule → List (At × TInst)
 insts m = flat_map insts_in m.items
 
-abbrev pub inst_row : Named Face → Named Net → ℕ → At × TInst → PInst
+abbrev pub inst_row : Named Interface → Named Net → ℕ → At × TInst → PInst
 inst_row fs ns id inst = record {
   id = record { 0 = id };
   name = inst.1.name.name;
@@ -137,7 +137,7 @@ abbrev pub port_row : Named Net → List ℕ × Port → PPort
 port_row ns port = record { net = net_id ns port.0; dir = port.1.dir }
 
 -- nets are numbered from 0 in the order of their first mention, instances from 0 in the order of the text
-abbrev pub row : Named Face → Bool → ℕ → TModule → PModule
+abbrev pub row : Named Interface → Bool → ℕ → TModule → PModule
 row fs all_leaf id m = record {
   id = record { 0 = id };
   name = m.name.name;
@@ -153,6 +153,6 @@ row fs all_leaf id m = record {
 -- the table with the text's modules after it, whose ids go on from its counter
 unfoldable pub built : Plain → Bool → Tree → Plain
 built M all_leaf tree = record {
-  modules = M.modules ++ numbered (row (faces M all_leaf tree.modules) all_leaf) M.next_module (added M tree.modules);
+  modules = M.modules ++ numbered (row (interfaces M all_leaf tree.modules) all_leaf) M.next_module (added M tree.modules);
   next_module = M.next_module + length (added M tree.modules);
 }

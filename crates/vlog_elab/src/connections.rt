@@ -4,18 +4,18 @@ ghost use Rattle.std.specs.List.{flat_map};
 ghost use Rattle.std.specs.Option.{option_copied};
 ghost use Rattle.vlog_read.specs.declared.tree.At.{At};
 ghost use Rattle.vlog_read.specs.declared.tree.TModule.{TModule};
-ghost use Rattle.vlog_elab.specs.declared.face.Face.{Face};
+ghost use Rattle.vlog_elab.specs.declared.interface.Interface.{Interface};
 ghost use Rattle.vlog_elab.specs.declared.scope.Scope.{Scope};
 ghost use Rattle.flatten_rules.specs.Check.{each_after};
 ghost use Rattle.vlog_elab.specs.Named.{named, place_of};
 ghost use Rattle.vlog_elab.specs.Text.{is_leaf, header_decls, range_of};
 ghost use Rattle.vlog_elab.specs.Steps.{Declares, Places, Connects, Uses, Fits, decl_steps, conn_steps, inst_steps, item_steps, steps};
 ghost use Rattle.vlog_elab.specs.Connections.{is_implied, port_named, ports_named, port_place, mixes, conn_checks, inner_checks};
-ghost use Rattle.vlog_elab.specs.Walk.{Walks, Checks};
-ghost use Rattle.vlog_elab.specs.Walks.{with_new, step_walk};
+ghost use Rattle.vlog_elab.specs.inside.Walk.{Walks, Checks};
+ghost use Rattle.vlog_elab.specs.inside.Walks.{with_new, step_walk};
 
-use crate::face::{Face, Port};
 use crate::fault::{ElabFault, ElabKind, fault, fault_at};
+use crate::interface::{Interface, Port};
 use crate::modules::is_leaf;
 use crate::names::Names;
 use crate::scope::{Net, Scope, meet, net_range};
@@ -24,17 +24,17 @@ use emh_base::{Name, NoMemory, Range};
 use std::alloc::Global;
 use vlog_read::{At, Decl, Header, Item, Part, TConn, TInst, TModule};
 
-/// Looks at the connections of the modules that aren't leaves, where all modules have these faces.
+/// Looks at the connections of the modules that aren't leaves, where all modules have these interfaces.
 pub fn check_connections(
     alloc: Global,
     all_leaf: bool,
-    faces: &Names<'_, Face<'_>>,
+    interfaces: &Names<'_, Interface<'_>>,
     modules: &[TModule],
 ) -> Result<(), ElabFault>
-    ensures { Checks (flat_map (λ (m : TModule). if is_leaf all_leaf m then [] else inner_checks faces.now m) modules.now) result }
+    ensures { Checks (flat_map (λ (m : TModule). if is_leaf all_leaf m then [] else inner_checks interfaces.now m) modules.now) result }
 {
     for m in modules {
-        check_module(alloc, all_leaf, faces, m)?;
+        check_module(alloc, all_leaf, interfaces, m)?;
     }
     Ok(())
 }
@@ -42,28 +42,28 @@ pub fn check_connections(
 fn check_module(
     alloc: Global,
     all_leaf: bool,
-    faces: &Names<'_, Face<'_>>,
+    interfaces: &Names<'_, Interface<'_>>,
     m: &TModule,
 ) -> Result<(), ElabFault>
-    ensures { Checks (if is_leaf all_leaf m.now then [] else inner_checks faces.now m.now) result }
+    ensures { Checks (if is_leaf all_leaf m.now then [] else inner_checks interfaces.now m.now) result }
 {
     if is_leaf(all_leaf, m) {
         return Ok(());
     }
     let mut scope = Scope::new(alloc);
-    walk_module(alloc, faces, &mut scope, m)
+    walk_module(alloc, interfaces, &mut scope, m)
 }
 
 fn walk_module<'a>(
     alloc: Global,
-    faces: &Names<'_, Face<'_>>,
+    interfaces: &Names<'_, Interface<'_>>,
     scope: &mut Scope<'a>,
     m: &'a TModule,
 ) -> Result<(), ElabFault>
-    ensures { Walks step_walk scope.old (steps faces.now m.now) result scope.new }
+    ensures { Walks step_walk scope.old (steps interfaces.now m.now) result scope.new }
 {
     walk_header(scope, &m.header)?;
-    walk_items(alloc, faces, scope, m.items.as_slice())
+    walk_items(alloc, interfaces, scope, m.items.as_slice())
 }
 
 fn walk_header<'a>(scope: &mut Scope<'a>, header: &'a Header) -> Result<(), ElabFault>
@@ -109,43 +109,49 @@ fn declare_all<'a>(
 
 fn walk_items<'a>(
     alloc: Global,
-    faces: &Names<'_, Face<'_>>,
+    interfaces: &Names<'_, Interface<'_>>,
     scope: &mut Scope<'a>,
     items: &'a [Item],
 ) -> Result<(), ElabFault>
-    ensures { Walks step_walk scope.old (flat_map (item_steps faces.now) items.now) result scope.new }
+    ensures { Walks step_walk scope.old (flat_map (item_steps interfaces.now) items.now) result scope.new }
 {
     for item in items {
-        walk_item(alloc, faces, scope, item)?;
+        walk_item(alloc, interfaces, scope, item)?;
     }
     Ok(())
 }
 
 fn walk_item<'a>(
     alloc: Global,
-    faces: &Names<'_, Face<'_>>,
+    interfaces: &Names<'_, Interface<'_>>,
     scope: &mut Scope<'a>,
     item: &'a Item,
 ) -> Result<(), ElabFault>
-    ensures { Walks step_walk scope.old (item_steps faces.now item.now) result scope.new }
+    ensures { Walks step_walk scope.old (item_steps interfaces.now item.now) result scope.new }
 {
     match item {
         Item::Decl(decl) => walk_decl(scope, decl),
-        Item::Insts(master, insts) => walk_insts(alloc, faces, master, scope, insts.as_slice()),
+        Item::Insts(master, insts) => walk_insts(
+            alloc,
+            interfaces,
+            master,
+            scope,
+            insts.as_slice(),
+        ),
     }
 }
 
 fn walk_insts<'a>(
     alloc: Global,
-    faces: &Names<'_, Face<'_>>,
+    interfaces: &Names<'_, Interface<'_>>,
     master: &At,
     scope: &mut Scope<'a>,
     insts: &'a [TInst],
 ) -> Result<(), ElabFault>
-    ensures { Walks step_walk scope.old (flat_map (inst_steps (named faces.now master.now.name) master.now) insts.now) result scope.new }
+    ensures { Walks step_walk scope.old (flat_map (inst_steps (named interfaces.now master.now.name) master.now) insts.now) result scope.new }
 {
     for inst in insts {
-        walk_inst(alloc, faces, master, scope, inst)?;
+        walk_inst(alloc, interfaces, master, scope, inst)?;
     }
     Ok(())
 }
@@ -153,30 +159,36 @@ fn walk_insts<'a>(
 /// Takes an instance, whose master is to be there.
 fn walk_inst<'a>(
     alloc: Global,
-    faces: &Names<'_, Face<'_>>,
+    interfaces: &Names<'_, Interface<'_>>,
     master: &At,
     scope: &mut Scope<'a>,
     inst: &'a TInst,
 ) -> Result<(), ElabFault>
-    ensures { Walks step_walk scope.old (inst_steps (named faces.now master.now.name) master.now inst.now) result scope.new }
+    ensures { Walks step_walk scope.old (inst_steps (named interfaces.now master.now.name) master.now inst.now) result scope.new }
 {
-    let Some(face) = faces.get(&master.name) else {
+    let Some(interface) = interfaces.get(&master.name) else {
         return Err(fault(ElabKind::UnknownModule, master));
     };
-    walk_inst_of(alloc, face, master, scope, inst)
+    walk_inst_of(alloc, interface, master, scope, inst)
 }
 
 fn walk_inst_of<'a>(
     alloc: Global,
-    face: &Face<'_>,
+    interface: &Interface<'_>,
     master: &At,
     scope: &mut Scope<'a>,
     inst: &'a TInst,
 ) -> Result<(), ElabFault>
-    ensures { Walks step_walk scope.old (inst_steps (Some face.now) master.now inst.now) result scope.new }
+    ensures { Walks step_walk scope.old (inst_steps (Some interface.now) master.now inst.now) result scope.new }
 {
-    place(face, master, scope, &inst.name)?;
-    walk_conns(alloc, &face.ports, scope, &inst.name, inst.conns.as_slice())
+    place(interface, master, scope, &inst.name)?;
+    walk_conns(
+        alloc,
+        &interface.ports,
+        scope,
+        &inst.name,
+        inst.conns.as_slice(),
+    )
 }
 
 fn walk_conns<'a>(
@@ -255,12 +267,12 @@ fn declares_late<'a>(nets: &mut Names<'a, Net>, name: &'a Name, net: Net) -> Res
 
 /// Takes an instance of a module.
 fn place<'a>(
-    face: &Face<'_>,
+    interface: &Interface<'_>,
     master: &At,
     scope: &mut Scope<'a>,
     name: &'a At,
 ) -> Result<(), ElabFault>
-    ensures { Walks step_walk scope.old (Places (Some face.now) master.now name.now ∷ []) result scope.new }
+    ensures { Walks step_walk scope.old (Places (Some interface.now) master.now name.now ∷ []) result scope.new }
 {
     if scope.nets.contains(&name.name) {
         return Err(fault(ElabKind::NameTaken, name));

@@ -1,12 +1,12 @@
 //! The connections of an instance, in the order of its master's ports.
 ghost use Rattle.std.specs.Prelude.{◌≡◌, ◌++◌, ℕ, List, Some, slice_get, IfOk, OnOk};
 ghost use Rattle.std.specs.Option.{option_copied};
-ghost use Rattle.vlog_elab.specs.declared.face.Port.{Port};
+ghost use Rattle.vlog_elab.specs.declared.interface.Port.{Port};
 ghost use Rattle.vlog_elab.specs.Table.{conn_of, conn_to, conns_of};
-ghost use Rattle.vlog_elab.specs.Pins.{pin_at, pins_from};
+ghost use Rattle.vlog_elab.specs.inside.Pins.{pin_at, pins_from};
 
 use crate::bits::conn_bits;
-use crate::face::Port;
+use crate::interface::Port;
 use crate::names::Names;
 use crate::scope::Net;
 use emh_base::{Conn, List, Name, NoMemory};

@@ -6,13 +6,13 @@ ghost use Rattle.vlog_read.specs.declared.tree.Decl.{Decl};
 ghost use Rattle.vlog_elab.specs.declared.said.Said.{Said};
 ghost use Rattle.flatten_rules.specs.Check.{first_broken};
 ghost use Rattle.vlog_elab.specs.Text.{header_names, header_decls, range_of};
-ghost use Rattle.vlog_elab.specs.Faces.{Directed, Wired, Placed, range_places, name_place, decl_places, item_places, places, said, ports};
+ghost use Rattle.vlog_elab.specs.Interfaces.{Directed, Wired, Placed, range_places, name_place, decl_places, item_places, places, said, ports};
 ghost use Rattle.vlog_elab.specs.Declarations.{inside_checks};
-ghost use Rattle.vlog_elab.specs.Walk.{Walks, Gives, Found};
-ghost use Rattle.vlog_elab.specs.Walks.{header_walk, place_walk, port_walk};
+ghost use Rattle.vlog_elab.specs.inside.Walk.{Walks, Gives, Found};
+ghost use Rattle.vlog_elab.specs.inside.Walks.{header_walk, place_walk, port_walk};
 
-use crate::face::Port;
 use crate::fault::{ElabFault, ElabKind, fault, fault_at};
+use crate::interface::Port;
 use crate::names::Names;
 use crate::said::Said;
 use crate::same::same_range;

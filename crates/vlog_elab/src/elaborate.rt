@@ -5,14 +5,14 @@ ghost use Rattle.vlog_read.specs.declared.tree.TModule.{TModule};
 ghost use Rattle.vlog_elab.specs.declared.fault.ElabFault.{ElabFault};
 ghost use Rattle.flatten_rules.specs.Check.{first_broken};
 ghost use Rattle.vlog_elab.specs.Named.{place_of};
-ghost use Rattle.vlog_elab.specs.Faces.{added, faces, known};
+ghost use Rattle.vlog_elab.specs.Interfaces.{added, interfaces, known};
 ghost use Rattle.vlog_elab.specs.Elaboration.{checks, Elaborates, HasFault, UnlessNoMemory};
-ghost use Rattle.vlog_elab.specs.Walk.{Found};
+ghost use Rattle.vlog_elab.specs.inside.Walk.{Found};
 ghost use Rattle.vlog_elab.specs.Counters.{HasCounters};
 
 use crate::connections::check_connections;
-use crate::face::{Face, Known};
 use crate::fault::{ElabFault, ElabKind, fault};
+use crate::interface::{Interface, Known};
 use crate::modules::{add_modules, known_of};
 use crate::names::Names;
 use crate::table::rows_of;
@@ -47,13 +47,13 @@ fn rounds(alloc: Global, table: &Plain, tree: &Tree, all_leaf: bool) -> Result<P
     ensures fault { IfErr result (UnlessNoMemory (HasFault table.now all_leaf tree.now)) }
 {
     let known = checked(alloc, table, tree, all_leaf)?;
-    let modules = rows_of(alloc, table, &known.faces, tree.modules.as_slice())?;
+    let modules = rows_of(alloc, table, &known.interfaces, tree.modules.as_slice())?;
     let plain = Plain {
         modules,
         next_module: known.next_module,
     };
     match first_on_cycle(alloc, &plain, table.modules.len())? {
-        Some(place) => Err(recursive(table, &known.faces, tree.modules.as_slice(), place)),
+        Some(place) => Err(recursive(table, &known.interfaces, tree.modules.as_slice(), place)),
         None => Ok(plain),
     }
 }
@@ -73,18 +73,18 @@ fn checked<'a>(
     let modules = tree.modules.as_slice();
     let mut known = known_of(alloc, table)?;
     add_modules(alloc, all_leaf, &mut known, modules)?;
-    check_connections(alloc, all_leaf, &known.faces, modules)?;
+    check_connections(alloc, all_leaf, &known.interfaces, modules)?;
     Ok(known)
 }
 
 /// The fault of the module of a text whose row is at a place of the table that is built: the fault at its name.
 fn recursive(
     table: &Plain,
-    masters: &Names<'_, Face<'_>>,
+    masters: &Names<'_, Interface<'_>>,
     modules: &[TModule],
     place: usize,
 ) -> ElabFault
-    requires known { (all_leaf : Bool) × (masters.now ≡ faces table.now all_leaf modules.now) }
+    requires known { (all_leaf : Bool) × (masters.now ≡ interfaces table.now all_leaf modules.now) }
     requires after { length table.now.modules ≤ place }
     requires within { place < length table.now.modules + length (added table.now modules.now) }
     ensures { (k : ℕ) (m : TModule) → place ≡ length table.now.modules + k → slice_get (added table.now modules.now) k ≡ Some m
@@ -103,8 +103,8 @@ fn recursive(
     unreachable!("each row that was added is one of the text")
 }
 
-/// Whether the face of a module is at that place: the first of its name where the place is the next one.
-fn is_next(masters: &Names<'_, Face<'_>>, m: &TModule, next: usize) -> bool
+/// Whether the interface of a module is at that place: the first of its name where the place is the next one.
+fn is_next(masters: &Names<'_, Interface<'_>>, m: &TModule, next: usize) -> bool
     ensures { IsTrue result ↔ (place_of masters.now m.now.name.name ≡ Some next) }
 {
     match masters.find(&m.name.name) {

@@ -1,5 +1,5 @@
 ghost use Rattle.std.specs.Prelude.{Some};
-ghost use Rattle.vlog_elab.specs.Walk.{Found};
+ghost use Rattle.vlog_elab.specs.inside.Walk.{Found};
 
 use emh_base::{Name, NoMemory, TryCopy};
 use vlog_read::At;

@@ -5,13 +5,13 @@ ghost use Rattle.emh_base.specs.declared.plain.PPort.{PPort};
 ghost use Rattle.flatten_rules.specs.Lookup.{net_of};
 ghost use Rattle.flatten_rules.specs.Sound.{IsSound};
 ghost use Rattle.vlog_elab.specs.Text.{is_leaf};
-ghost use Rattle.vlog_elab.specs.Faces.{row_port, row_face};
+ghost use Rattle.vlog_elab.specs.Interfaces.{row_port, row_face};
 ghost use Rattle.vlog_elab.specs.Declarations.{name_check, entry_checks};
-ghost use Rattle.vlog_elab.specs.Walk.{Walks, Checks};
-ghost use Rattle.vlog_elab.specs.Walks.{module_walk, with_module};
+ghost use Rattle.vlog_elab.specs.inside.Walk.{Walks, Checks};
+ghost use Rattle.vlog_elab.specs.inside.Walks.{module_walk, with_module};
 
-use crate::face::{Face, Known, Port};
 use crate::fault::{ElabFault, ElabKind, fault};
+use crate::interface::{Interface, Known, Port};
 use crate::names::Names;
 use crate::ports::ports;
 use crate::same::same_ports;
@@ -24,34 +24,34 @@ use vlog_read::TModule;
 pub fn known_of(alloc: Global, table: &Plain) -> Result<Known<'_>, NoMemory>
     requires { IsSound table.now }
     ensures { IfOk result (λ known. known
-        ≡ record { faces = map row_face table.now.modules; next_module = table.now.next_module }) }
+        ≡ record { interfaces = map row_face table.now.modules; next_module = table.now.next_module }) }
 {
-    let mut faces = Names::new(alloc);
+    let mut interfaces = Names::new(alloc);
     for holder in table.modules.as_slice() {
-        add_row(alloc, &mut faces, holder)?;
+        add_row(alloc, &mut interfaces, holder)?;
     }
     Ok(Known {
-        faces,
+        interfaces,
         next_module: table.next_module,
     })
 }
 
 fn add_row<'a>(
     alloc: Global,
-    faces: &mut Names<'a, Face<'a>>,
+    interfaces: &mut Names<'a, Interface<'a>>,
     holder: &'a PModule,
 ) -> Result<(), NoMemory>
     requires nets { AllPairs (λ (a b : PNet). a.id.0 < b.id.0) holder.now.nets }
     requires ports { All (λ (port : PPort). IsSome (net_of holder.now port.net)) holder.now.ports }
-    ensures { OnOk result (faces.new ≡ faces.old ++ row_face holder.now ∷ []) }
+    ensures { OnOk result (interfaces.new ≡ interfaces.old ++ row_face holder.now ∷ []) }
 {
     let mut ports = Names::new(alloc);
     for port in holder.ports.as_slice() {
         add_row_port(&mut ports, holder, port)?;
     }
-    faces.push(
+    interfaces.push(
         &holder.name,
-        Face {
+        Interface {
             id: holder.id,
             leaf: holder.leaf,
             ports,
@@ -113,7 +113,7 @@ fn add_module<'a>(
 fn check_name(leaf: bool, known: &Known<'_>, m: &TModule) -> Result<(), ElabFault>
     ensures { Checks (name_check leaf known.now m.now ∷ []) result }
 {
-    let Some(there) = known.faces.get(&m.name.name) else {
+    let Some(there) = known.interfaces.get(&m.name.name) else {
         return Ok(());
     };
     if there.leaf && leaf {
@@ -133,7 +133,7 @@ fn enter<'a>(
     ensures checks { Checks (entry_checks known.old ports.entry m.now) result }
     ensures after { OnOk result (known.new ≡ with_module leaf known.old m.now ports.entry) }
 {
-    if let Some(there) = known.faces.get(&m.name.name) {
+    if let Some(there) = known.interfaces.get(&m.name.name) {
         if same_ports(&there.ports, &ports) {
             return Ok(());
         }
@@ -142,12 +142,12 @@ fn enter<'a>(
     if known.next_module == u32::MAX {
         return Err(fault(ElabKind::TooManyModules, &m.name));
     }
-    let face = Face {
+    let interface = Interface {
         id: ModId(known.next_module),
         leaf,
         ports,
     };
-    known.faces.push(&m.name.name, face)?;
+    known.interfaces.push(&m.name.name, interface)?;
     known.next_module += 1;
     Ok(())
 }

@@ -1,12 +1,12 @@
 ghost use Rattle.std.specs.Prelude.{◌≡◌, ℕ, List, [], ◌∷◌, ◌++◌, not, if◌then◌else◌, length, slice_get, bytes_eq, Some, unwrap_or, IfOk, OnOk, OnErr};
 ghost use Rattle.std.specs.List.{position};
 ghost use Rattle.std.specs.Option.{option_copied, option_map};
-ghost use Rattle.vlog_elab.specs.Agree.{Agrees, AgreesPastFew};
+ghost use Rattle.vlog_elab.specs.inside.Agree.{Agrees, AgreesPastFew};
 ghost use Rattle.vlog_elab.specs.Named.{named, place_of, is_there};
-ghost use Rattle.vlog_elab.specs.Placed.{place_at};
-ghost use Rattle.vlog_elab.specs.Walks.{with_new};
+ghost use Rattle.vlog_elab.specs.inside.Placed.{place_at};
+ghost use Rattle.vlog_elab.specs.inside.Walks.{with_new};
 
-use crate::places::Places;
+use crate::name_positions::NamePositions;
 use emh_base::{Name, NoMemory};
 use std::alloc::Global;
 use std::marker::Model;
@@ -18,14 +18,14 @@ const FEW: usize = 8;
 /// The map of places is kept where there are more than `FEW` entries.
 #[derive(Drop)]
 pub struct Names<'a, V> {
-    places: Places<'a>,
+    places: NamePositions<'a>,
     entries: Vec<(&'a Name, V)>,
 }
 
 impl<'a, V> Model for Names<'a, V> {
     ghost use Rattle.std.specs.Prelude.{List, ℕ};
     ghost use Rattle.std.specs.Coded.{coded_list, coded_ℕ, coded×};
-    ghost use Rattle.vlog_elab.specs.Agree.{texts, AgreesPastFew};
+    ghost use Rattle.vlog_elab.specs.inside.Agree.{texts, AgreesPastFew};
 
     ghost Value = { List (List ℕ × V) };
 
@@ -42,7 +42,7 @@ impl<'a, V: Drop> Names<'a, V> {
         ensures { result ≡ [] }
     {
         Names {
-            places: Places::new(alloc),
+            places: NamePositions::new(alloc),
             entries: Vec::new(alloc),
         }
     }
@@ -160,7 +160,10 @@ fn first_of<V>(entries: &[(&Name, V)], name: &[u8]) -> Option<usize>
 }
 
 /// Makes the map of these entries where there are few of them, for which none was kept.
-fn place_few<'a, V>(places: &mut Places<'a>, entries: &Vec<(&'a Name, V)>) -> Result<(), NoMemory>
+fn place_few<'a, V>(
+    places: &mut NamePositions<'a>,
+    entries: &Vec<(&'a Name, V)>,
+) -> Result<(), NoMemory>
     ensures ok { OnOk result (AgreesPastFew places.old entries.now.items → Agrees (place_at places.new.by_number places.new.by_name) entries.now.items) }
     ensures err { OnErr result (AgreesPastFew places.old entries.now.items → AgreesPastFew places.new entries.now.items) }
 {
@@ -171,10 +174,10 @@ fn place_few<'a, V>(places: &mut Places<'a>, entries: &Vec<(&'a Name, V)>) -> Re
 }
 
 /// The map of the places of these entries.
-fn places_of<'a, V>(alloc: Global, entries: &[(&'a Name, V)]) -> Result<Places<'a>, NoMemory>
+fn places_of<'a, V>(alloc: Global, entries: &[(&'a Name, V)]) -> Result<NamePositions<'a>, NoMemory>
     ensures { IfOk result (λ places. Agrees (place_at places.by_number places.by_name) entries.now) }
 {
-    let mut places = Places::new(alloc);
+    let mut places = NamePositions::new(alloc);
     for place in 0..entries.len() {
         places.get_or_insert(entries[place].0.as_bytes(), place)?;
     }

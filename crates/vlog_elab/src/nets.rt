@@ -3,7 +3,7 @@ ghost use Rattle.std.specs.Prelude.{◌≡◌, ◌∷◌, [], map, IfOk, OnOk};
 ghost use Rattle.std.specs.List.{flat_map};
 ghost use Rattle.vlog_elab.specs.Text.{header_decls};
 ghost use Rattle.vlog_elab.specs.Table.{part_net, name_net, decl_nets, conn_nets, inst_nets, item_nets, nets};
-ghost use Rattle.vlog_elab.specs.Walks.{with_new};
+ghost use Rattle.vlog_elab.specs.inside.Walks.{with_new};
 
 use crate::names::Names;
 use crate::scope::{Net, meet};

@@ -4,14 +4,14 @@ ghost use Rattle.std.specs.List.{flat_map};
 ghost use Rattle.vlog_read.specs.declared.tree.Decl.{Decl};
 ghost use Rattle.flatten_rules.specs.Check.{first_broken};
 ghost use Rattle.vlog_elab.specs.Text.{header_names};
-ghost use Rattle.vlog_elab.specs.Faces.{ports};
+ghost use Rattle.vlog_elab.specs.Interfaces.{ports};
 ghost use Rattle.vlog_elab.specs.Declarations.{inside_checks};
-ghost use Rattle.vlog_elab.specs.Walk.{Walks, Gives, Found};
-ghost use Rattle.vlog_elab.specs.Walks.{port_walk};
+ghost use Rattle.vlog_elab.specs.inside.Walk.{Walks, Gives, Found};
+ghost use Rattle.vlog_elab.specs.inside.Walks.{port_walk};
 
 use crate::declarations::{header_of, said_of};
-use crate::face::Port;
 use crate::fault::{ElabFault, ElabKind, fault};
+use crate::interface::Port;
 use crate::names::Names;
 use std::alloc::Global;
 use vlog_read::{At, Decl, Header, TModule};

@@ -1,7 +1,7 @@
 ghost use Rattle.std.specs.Prelude.{◌≡◌, ◌≤◌, length, IfOk, IfErr, MatchResult};
 ghost use Rattle.emh_base.specs.declared.plain.Plain.{Plain};
 ghost use Rattle.flatten_rules.specs.Sound.{IsSound};
-ghost use Rattle.vlog_lex.specs.declared.TheConstants.{FILE_LIMIT};
+ghost use Rattle.emh_base.specs.declared.file.TheConstants.{FILE_LIMIT};
 ghost use Rattle.vlog_read.specs.HasTree.{HasTree};
 ghost use Rattle.vlog_elab.specs.declared.reads.ReadFault.{ReadFault};
 ghost use Rattle.vlog_elab.specs.Reads.{Reads, HasTreeFault, HasReadFault, UnlessNoMemory};

@@ -2,16 +2,16 @@
 ghost use Rattle.std.specs.Prelude.{◌≡◌, ℕ, Bool, List, Some, ◌++◌, ◌∷◌, [], map, length, slice_get, IfOk, OnOk};
 ghost use Rattle.std.specs.List.{flat_map};
 ghost use Rattle.vlog_read.specs.declared.tree.TInst.{TInst};
-ghost use Rattle.vlog_elab.specs.declared.face.Port.{Port};
+ghost use Rattle.vlog_elab.specs.declared.interface.Port.{Port};
 ghost use Rattle.vlog_elab.specs.declared.scope.Net.{Net};
 ghost use Rattle.vlog_elab.specs.Named.{named, numbered};
-ghost use Rattle.vlog_elab.specs.Faces.{face};
+ghost use Rattle.vlog_elab.specs.Interfaces.{interface};
 ghost use Rattle.vlog_elab.specs.Counters.{HasCounters};
 ghost use Rattle.vlog_elab.specs.Table.{nets, net_row, port_row, inst_row, insts_in, insts, row};
 
 use crate::bits::{counter, net_id, number};
 use crate::conns::conns_of;
-use crate::face::{Face, Port};
+use crate::interface::{Interface, Port};
 use crate::names::Names;
 use crate::nets::nets_of;
 use crate::scope::Net;
@@ -19,19 +19,19 @@ use emh_base::{InstId, List, ModId, NetId, NoMemory, PInst, PModule, PNet, PPort
 use std::alloc::Global;
 use vlog_read::{At, Item, TInst, TModule};
 
-/// The row of a module with this face, where the modules of the table have these.
+/// The row of a module with this interface, where the modules of the table have these.
 pub fn row_of(
     alloc: Global,
-    faces: &Names<'_, Face<'_>>,
-    own: &Face<'_>,
+    interfaces: &Names<'_, Interface<'_>>,
+    own: &Interface<'_>,
     m: &TModule,
 ) -> Result<PModule, NoMemory>
-    ensures row { IfOk result (λ made. (all_leaf : Bool) (id : ℕ) → own.now ≡ (face all_leaf id m.now).1
-        → made ≡ row faces.now all_leaf id m.now) }
+    ensures row { IfOk result (λ made. (all_leaf : Bool) (id : ℕ) → own.now ≡ (interface all_leaf id m.now).1
+        → made ≡ row interfaces.now all_leaf id m.now) }
     ensures counters { IfOk result HasCounters }
 {
     let nets = nets_of(alloc, m)?;
-    let insts = insts_of(alloc, faces, &nets, m)?;
+    let insts = insts_of(alloc, interfaces, &nets, m)?;
     Ok(PModule {
         id: own.id,
         name: m.name.name.copy()?,
@@ -103,16 +103,16 @@ fn add_port(
 
 fn insts_of(
     alloc: Global,
-    faces: &Names<'_, Face<'_>>,
+    interfaces: &Names<'_, Interface<'_>>,
     nets: &Names<'_, Net>,
     m: &TModule,
 ) -> Result<List<PInst>, NoMemory>
-    ensures { IfOk result (λ rows. rows ≡ numbered (inst_row faces.now nets.now) 0 (insts m.now)) }
+    ensures { IfOk result (λ rows. rows ≡ numbered (inst_row interfaces.now nets.now) 0 (insts m.now)) }
 {
     let mut rows = List::new(alloc);
     let items = m.items.as_slice();
     for item in items {
-        add_item(alloc, &mut rows, faces, nets, item)?;
+        add_item(alloc, &mut rows, interfaces, nets, item)?;
     }
     Ok(rows)
 }
@@ -120,31 +120,38 @@ fn insts_of(
 fn add_item(
     alloc: Global,
     rows: &mut List<PInst>,
-    faces: &Names<'_, Face<'_>>,
+    interfaces: &Names<'_, Interface<'_>>,
     nets: &Names<'_, Net>,
     item: &Item,
 ) -> Result<(), NoMemory>
-    ensures { OnOk result (rows.new ≡ rows.old ++ numbered (inst_row faces.now nets.now) (length rows.old) (insts_in item.now)) }
+    ensures { OnOk result (rows.new ≡ rows.old ++ numbered (inst_row interfaces.now nets.now) (length rows.old) (insts_in item.now)) }
 {
     match item {
         Item::Decl(_) => Ok(()),
-        Item::Insts(master, insts) => add_insts(alloc, rows, faces, nets, master, insts.as_slice()),
+        Item::Insts(master, insts) => add_insts(
+            alloc,
+            rows,
+            interfaces,
+            nets,
+            master,
+            insts.as_slice(),
+        ),
     }
 }
 
 fn add_insts(
     alloc: Global,
     rows: &mut List<PInst>,
-    faces: &Names<'_, Face<'_>>,
+    interfaces: &Names<'_, Interface<'_>>,
     nets: &Names<'_, Net>,
     master: &At,
     insts: &[TInst],
 ) -> Result<(), NoMemory>
     ensures { OnOk result (rows.new ≡ rows.old
-        ++ numbered (inst_row faces.now nets.now) (length rows.old) (map (λ (i : TInst). (master.now, i)) insts.now)) }
+        ++ numbered (inst_row interfaces.now nets.now) (length rows.old) (map (λ (i : TInst). (master.now, i)) insts.now)) }
 {
     for inst in insts {
-        let row = inst_row(alloc, rows.len(), faces, nets, master, inst)?;
+        let row = inst_row(alloc, rows.len(), interfaces, nets, master, inst)?;
         rows.push(row)?;
     }
     Ok(())
@@ -153,16 +160,19 @@ fn add_insts(
 fn inst_row(
     alloc: Global,
     id: usize,
-    faces: &Names<'_, Face<'_>>,
+    interfaces: &Names<'_, Interface<'_>>,
     nets: &Names<'_, Net>,
     master: &At,
     inst: &TInst,
 ) -> Result<PInst, NoMemory>
-    ensures { IfOk result (λ made. made ≡ inst_row faces.now nets.now id (master.now, inst.now)) }
+    ensures { IfOk result (λ made. made ≡ inst_row interfaces.now nets.now id (master.now, inst.now)) }
 {
     let conns = inst.conns.as_slice();
-    let (master, conns) = match faces.get(&master.name) {
-        Some(face) => (face.id, conns_of(alloc, nets, &face.ports, conns)?),
+    let (master, conns) = match interfaces.get(&master.name) {
+        Some(interface) => (
+            interface.id,
+            conns_of(alloc, nets, &interface.ports, conns)?,
+        ),
         None => (ModId(0), List::new(alloc)),
     };
     Ok(PInst {

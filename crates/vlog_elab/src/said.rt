@@ -1,6 +1,6 @@
 ghost use Rattle.std.specs.Prelude.{◌≡◌, []};
 
-use crate::face::Port;
+use crate::interface::Port;
 use crate::names::Names;
 use emh_base::Range;
 use std::alloc::Global;

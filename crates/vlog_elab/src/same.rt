@@ -1,9 +1,9 @@
 //! Whether the ports of two modules are the same.
 ghost use Rattle.std.specs.Prelude.{◌≡◌, ℕ, List, Some, ◌≤◌, length, slice_get};
-ghost use Rattle.vlog_elab.specs.declared.face.Port.{Port};
-ghost use Rattle.vlog_elab.specs.Faces.{same_dir, same_range, same_port, same_ports};
+ghost use Rattle.vlog_elab.specs.declared.interface.Port.{Port};
+ghost use Rattle.vlog_elab.specs.Interfaces.{same_dir, same_range, same_port, same_ports};
 
-use crate::face::Port;
+use crate::interface::Port;
 use crate::names::Names;
 use emh_base::{Dir, Range};
 

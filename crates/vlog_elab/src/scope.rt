@@ -1,7 +1,7 @@
 ghost use Rattle.std.specs.Prelude.{◌≡◌, [], ◌∷◌, OnOk};
 ghost use Rattle.vlog_elab.specs.Named.{named};
 ghost use Rattle.vlog_elab.specs.Connections.{net_range};
-ghost use Rattle.vlog_elab.specs.Walks.{with_new};
+ghost use Rattle.vlog_elab.specs.inside.Walks.{with_new};
 
 use crate::names::Names;
 use emh_base::{Name, NoMemory, Range};

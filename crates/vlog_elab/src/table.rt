@@ -1,25 +1,25 @@
 //! The table of a text, as rows.
 ghost use Rattle.std.specs.Prelude.{◌≡◌, ◌≢◌, ℕ, Bool, Some, ◌++◌, ◌∷◌, [], length, slice_get, All, IfOk, OnOk};
 ghost use Rattle.vlog_elab.specs.Named.{place_of, numbered};
-ghost use Rattle.vlog_elab.specs.Faces.{added, face, faces};
+ghost use Rattle.vlog_elab.specs.Interfaces.{added, interface, interfaces};
 ghost use Rattle.vlog_elab.specs.Table.{row};
 ghost use Rattle.vlog_elab.specs.Counters.{HasCounters};
 
-use crate::face::Face;
+use crate::interface::Interface;
 use crate::names::Names;
 use crate::rows::row_of;
 use emh_base::{List, NoMemory, PModule, Plain, TryCopy};
 use std::alloc::Global;
 use vlog_read::TModule;
 
-/// The modules of a table, and after them those that a text adds to it, where all of them have these faces.
+/// The modules of a table, and after them those that a text adds to it, where all of them have these interfaces.
 pub fn rows_of(
     alloc: Global,
     table: &Plain,
-    masters: &Names<'_, Face<'_>>,
+    masters: &Names<'_, Interface<'_>>,
     modules: &[TModule],
 ) -> Result<List<PModule>, NoMemory>
-    ensures rows { (all_leaf : Bool) → masters.now ≡ faces table.now all_leaf modules.now → IfOk result (λ rows. rows
+    ensures rows { (all_leaf : Bool) → masters.now ≡ interfaces table.now all_leaf modules.now → IfOk result (λ rows. rows
         ≡ table.now.modules ++ numbered (row masters.now all_leaf) table.now.next_module (added table.now modules.now)) }
     ensures counters { All HasCounters table.now.modules → IfOk result (All HasCounters) }
 {
@@ -30,16 +30,16 @@ pub fn rows_of(
     Ok(rows)
 }
 
-/// Puts the row of a module last, where it is the next whose face is there: the first of its name.
+/// Puts the row of a module last, where it is the next whose interface is there: the first of its name.
 fn add_row(
     alloc: Global,
     rows: &mut List<PModule>,
-    masters: &Names<'_, Face<'_>>,
+    masters: &Names<'_, Interface<'_>>,
     m: &TModule,
 ) -> Result<(), NoMemory>
     ensures again { place_of masters.now m.now.name.name ≢ Some (length rows.old) → OnOk result (rows.new ≡ rows.old) }
     ensures new { (all_leaf : Bool) (id : ℕ) → place_of masters.now m.now.name.name ≡ Some (length rows.old)
-        → slice_get masters.now (length rows.old) ≡ Some (face all_leaf id m.now)
+        → slice_get masters.now (length rows.old) ≡ Some (interface all_leaf id m.now)
         → OnOk result (rows.new ≡ rows.old ++ row masters.now all_leaf id m.now ∷ []) }
     ensures counters { All HasCounters rows.old → OnOk result (All HasCounters rows.new) }
 {

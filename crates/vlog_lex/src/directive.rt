@@ -2,12 +2,12 @@ ghost use Rattle.std.specs.Prelude.{◌≡◌, ◌<◌, ◌≤◌, length};
 ghost use Rattle.vlog_lex.specs.Piece.{directive_of, PieceBy, DirectiveIs};
 ghost use Rattle.vlog_lex.specs.Found.{Finds};
 
-use crate::FILE_LIMIT;
 use crate::case::{Case, Directive};
 use crate::class::Class;
 use crate::found::Found;
 use crate::place::line_end;
 use crate::token::{LexFault, TokenKind};
+use emh_base::FILE_LIMIT;
 
 /// What a directive's name says.
 fn directive_of(name: &[u8]) -> Directive

@@ -4,11 +4,10 @@ ghost use Rattle.vlog_lex.specs.declared.token.LexFault.{LexFault};
 ghost use Rattle.vlog_lex.specs.Found.{UnlessNoMemory};
 ghost use Rattle.vlog_lex.specs.Lexes.{Lexes, HasFault, IsInRange};
 
-use crate::FILE_LIMIT;
 use crate::found::Found;
 use crate::piece::piece;
 use crate::token::{LexFault, Token, Tokens};
-use emh_base::List;
+use emh_base::{FILE_LIMIT, List};
 use std::alloc::Global;
 
 /// The tokens of a netlist, or its first fault from the left. Each byte is looked at a bounded number of times.

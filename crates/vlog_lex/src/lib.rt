@@ -16,6 +16,3 @@ mod token;
 pub use law::one_answer;
 pub use lexer::tokens;
 pub use token::{LexFault, Token, TokenKind, Tokens};
-
-/// The most bytes that a netlist may have.
-pub const FILE_LIMIT: usize = 67_108_864;

@@ -6,7 +6,6 @@ ghost use Rattle.vlog_lex.specs.Number.{written};
 ghost use Rattle.vlog_lex.specs.Piece.{case_of, Piece, PieceBy, NumberIs, word_kind};
 ghost use Rattle.vlog_lex.specs.Found.{Finds};
 
-use crate::FILE_LIMIT;
 use crate::attribute::attribute_end;
 use crate::case::Case;
 use crate::class::Class;
@@ -15,7 +14,7 @@ use crate::found::Found;
 use crate::number::{are_digits, base_of, decimal, low_bits};
 use crate::place::{byte_at, comment_end, line_end};
 use crate::token::{LexFault, TokenKind};
-use emh_base::{NAME_LIMIT, Name, NameFault};
+use emh_base::{FILE_LIMIT, NAME_LIMIT, Name, NameFault};
 use std::alloc::Global;
 use word_table::reserved_words;
 

@@ -8,8 +8,8 @@ use Rattle.vlog_read.specs.declared.fault.ParseFault.TheVariants.{Unexpected, Un
 use Rattle.vlog_read.specs.Sentence.{Spells, HasFault}
 use Rattle.vlog_read.specs.Law.{EachHasOneAnswer}
 use Rattle.vlog_read.specs.Found.{UnlessNoMemory}
-use Rattle.vlog_read.specs.Machine.Step.{read, start}
-use Rattle.vlog_read.specs.Machine.Reads.{Gives}
+use Rattle.vlog_read.specs.inside.Machine.Step.{read, start}
+use Rattle.vlog_read.specs.inside.Machine.Reads.{Gives}
 use Rattle.vlog_read.proofs.Spelled.Modules.{spelled}
 use Rattle.vlog_read.proofs.Sentences.{read_spelled, read_fault, fault_read}
 

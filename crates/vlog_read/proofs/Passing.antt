@@ -9,9 +9,9 @@ use Rattle.vlog_read.specs.declared.tree.Part.{Part}
 use Rattle.vlog_read.specs.declared.tree.Part.TheVariants.{Name}
 use Rattle.vlog_read.specs.Words.{wire_word, left_parenthesis, right_parenthesis, comma, dot, left_bracket}
 use Rattle.vlog_read.specs.Grammar.{first_at}
-use Rattle.vlog_read.specs.Machine.State.{SoFar, DeclFor, InInst, InConn, module_of, decl_of, with_conn, empty_conn, expr_of, with_part, with_expr, AfterModuleName, AfterPorts, AfterDir, AfterWire, DeclName, FirstConn, NextConn, FirstExpr, NextExpr, AfterPartName, AfterExpr, AfterConn}
-use Rattle.vlog_read.specs.Machine.Step.{is_mark, is_word, ends_conn, read}
-use Rattle.vlog_read.specs.Machine.Reads.{IsNext}
+use Rattle.vlog_read.specs.inside.Machine.State.{SoFar, DeclFor, InInst, InConn, module_of, decl_of, with_conn, empty_conn, expr_of, with_part, with_expr, AfterModuleName, AfterPorts, AfterDir, AfterWire, DeclName, FirstConn, NextConn, FirstExpr, NextExpr, AfterPartName, AfterExpr, AfterConn}
+use Rattle.vlog_read.specs.inside.Machine.Step.{is_mark, is_word, ends_conn, read}
+use Rattle.vlog_read.specs.inside.Machine.Reads.{IsNext}
 
 -- no header
 pub no_header : (len : ℕ) (s : SoFar) (n : At) (T : List Token) → IsNext (is_mark left_parenthesis) T ≡ false

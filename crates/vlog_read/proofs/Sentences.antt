@@ -7,8 +7,8 @@ use Rattle.vlog_read.specs.declared.fault.ParseFault.{ParseFault}
 use Rattle.vlog_read.specs.declared.fault.ParseFault.TheVariants.{Unexpected}
 use Rattle.vlog_read.specs.Grammar.{the_end}
 use Rattle.vlog_read.specs.Sentence.{Spells, Begins, StopsAt, StopsEarly, HasFault, fault_at}
-use Rattle.vlog_read.specs.Machine.State.{State, Top}
-use Rattle.vlog_read.specs.Machine.Step.{ways, step, upon, at_end, read, run, start}
+use Rattle.vlog_read.specs.inside.Machine.State.{State, Top}
+use Rattle.vlog_read.specs.inside.Machine.Step.{ways, step, upon, at_end, read, run, start}
 use Rattle.vlog_read.proofs.Spelled.Modules.{spelled}
 use Rattle.vlog_read.proofs.Left.Ends.{Ends}
 use Rattle.vlog_read.proofs.Left.Tokens.{chosen}

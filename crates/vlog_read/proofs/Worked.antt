@@ -19,7 +19,7 @@ use Rattle.vlog_read.specs.declared.tree.Part.TheVariants.{Bit, Bits, Lit}
 use Rattle.vlog_read.specs.declared.fault.ParseFault.TheVariants.{Unexpected, Unsupported}
 use Rattle.vlog_read.specs.Words
 use Rattle.vlog_read.specs.Sentence.{Spells, HasFault}
-use Rattle.vlog_read.specs.Machine.State.{decl_of, span_of, range_of, conn_of, empty_conn}
+use Rattle.vlog_read.specs.inside.Machine.State.{decl_of, span_of, range_of, conn_of, empty_conn}
 use Rattle.vlog_read.proofs.Sentences.{read_spelled, read_fault}
 
 -- tokens at the places 0, 1, 2 ..

@@ -4,6 +4,6 @@ pub mod Sentence
 pub mod Law
 pub mod Found
 pub mod Code
-pub mod Machine
 pub mod Bare
 pub mod HasTree
+pub mod inside

@@ -2,9 +2,9 @@ ghost use Rattle.std.specs.Prelude.{◌≡◌, ℕ, ◌<◌, ◌≤◌, [], Some
 ghost use Rattle.vlog_read.specs.declared.tree.At.{At};
 ghost use Rattle.vlog_read.specs.Words.{dot};
 ghost use Rattle.vlog_read.specs.Grammar.{first_at};
-ghost use Rattle.vlog_read.specs.Machine.State.{InInst, InInsts, InstName, FirstConn, NextConn, PortName, FirstExpr, AfterConn, AfterInst, inst_of, with_conn, with_inst, conn_of};
-ghost use Rattle.vlog_read.specs.Machine.Step.{is_mark};
-ghost use Rattle.vlog_read.specs.Machine.Reads.{IsNext, Reads};
+ghost use Rattle.vlog_read.specs.inside.Machine.State.{InInst, InInsts, InstName, FirstConn, NextConn, PortName, FirstExpr, AfterConn, AfterInst, inst_of, with_conn, with_inst, conn_of};
+ghost use Rattle.vlog_read.specs.inside.Machine.Step.{is_mark};
+ghost use Rattle.vlog_read.specs.inside.Machine.Reads.{IsNext, Reads};
 
 use crate::fault::ParseFault;
 use crate::reader::Reader;

@@ -4,9 +4,9 @@ ghost use Rattle.vlog_read.specs.declared.tree.At.{At};
 ghost use Rattle.vlog_read.specs.declared.tree.Decl.{Decl};
 ghost use Rattle.vlog_read.specs.declared.tree.Span.{Span};
 ghost use Rattle.vlog_read.specs.Words.{comma};
-ghost use Rattle.vlog_read.specs.Machine.State.{DeclFor, InModule, SoFar, ForItem, AfterHeaderName, AfterDir, AfterWire, RangeLeft, DeclName, AfterDeclName, decl_of};
-ghost use Rattle.vlog_read.specs.Machine.Step.{is_mark, read};
-ghost use Rattle.vlog_read.specs.Machine.Reads.{IsNext, Reads};
+ghost use Rattle.vlog_read.specs.inside.Machine.State.{DeclFor, InModule, SoFar, ForItem, AfterHeaderName, AfterDir, AfterWire, RangeLeft, DeclName, AfterDeclName, decl_of};
+ghost use Rattle.vlog_read.specs.inside.Machine.Step.{is_mark, read};
+ghost use Rattle.vlog_read.specs.inside.Machine.Reads.{IsNext, Reads};
 
 use crate::fault::ParseFault;
 use crate::reader::Reader;

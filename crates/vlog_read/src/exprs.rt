@@ -1,9 +1,9 @@
 ghost use Rattle.std.specs.Prelude.{◌≡◌, ℕ, ◌+◌, ◌<◌, ◌≤◌, ◌^◌, [], false, Option, length, OnOk};
 ghost use Rattle.vlog_read.specs.declared.tree.At.{At};
 ghost use Rattle.vlog_read.specs.Words.{left_brace, right_brace};
-ghost use Rattle.vlog_read.specs.Machine.State.{InConn, InInst, NextExpr, AfterExpr, expr_of, with_part};
-ghost use Rattle.vlog_read.specs.Machine.Step.{is_mark, read};
-ghost use Rattle.vlog_read.specs.Machine.Reads.{IsNext, Reads};
+ghost use Rattle.vlog_read.specs.inside.Machine.State.{InConn, InInst, NextExpr, AfterExpr, expr_of, with_part};
+ghost use Rattle.vlog_read.specs.inside.Machine.Step.{is_mark, read};
+ghost use Rattle.vlog_read.specs.inside.Machine.Reads.{IsNext, Reads};
 
 use crate::fault::ParseFault;
 use crate::reader::Reader;

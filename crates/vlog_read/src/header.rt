@@ -2,8 +2,8 @@ ghost use Rattle.std.specs.Prelude.{◌≡◌, ◌<◌, ◌≤◌, [], Some, len
 ghost use Rattle.emh_base.specs.declared.plain.Dir.{Dir};
 ghost use Rattle.vlog_read.specs.declared.tree.At.{At};
 ghost use Rattle.vlog_read.specs.declared.tree.Header.TheVariants.{Names, Decls};
-ghost use Rattle.vlog_read.specs.Machine.State.{DeclFor, SoFar, ForHeader, AfterModuleName, FirstHeader, AfterPorts, AfterDir, AfterDeclName, module_of};
-ghost use Rattle.vlog_read.specs.Machine.Reads.{Reads};
+ghost use Rattle.vlog_read.specs.inside.Machine.State.{DeclFor, SoFar, ForHeader, AfterModuleName, FirstHeader, AfterPorts, AfterDir, AfterDeclName, module_of};
+ghost use Rattle.vlog_read.specs.inside.Machine.Reads.{Reads};
 
 use crate::fault::ParseFault;
 use crate::reader::Reader;

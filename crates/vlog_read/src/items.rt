@@ -2,9 +2,9 @@ ghost use Rattle.std.specs.Prelude.{◌≡◌, ◌<◌, [], None, false, Option,
 ghost use Rattle.emh_base.specs.declared.plain.Dir.{Dir};
 ghost use Rattle.vlog_read.specs.declared.tree.At.{At};
 ghost use Rattle.vlog_read.specs.Words.{endmodule_word, comma};
-ghost use Rattle.vlog_read.specs.Machine.State.{InModule, ForItem, InItems, AfterWire, InstName, AfterInst, decl_of, insts_of, with_item};
-ghost use Rattle.vlog_read.specs.Machine.Step.{is_word, is_mark};
-ghost use Rattle.vlog_read.specs.Machine.Reads.{IsNext, Reads};
+ghost use Rattle.vlog_read.specs.inside.Machine.State.{InModule, ForItem, InItems, AfterWire, InstName, AfterInst, decl_of, insts_of, with_item};
+ghost use Rattle.vlog_read.specs.inside.Machine.Step.{is_word, is_mark};
+ghost use Rattle.vlog_read.specs.inside.Machine.Reads.{IsNext, Reads};
 
 use crate::fault::ParseFault;
 use crate::reader::Reader;

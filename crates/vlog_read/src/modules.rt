@@ -2,9 +2,9 @@ ghost use Rattle.std.specs.Prelude.{◌≡◌, ◌∷◌, ◌++◌, [], ◌<◌,
 ghost use Rattle.vlog_read.specs.declared.tree.TModule.{TModule};
 ghost use Rattle.vlog_read.specs.declared.tree.At.{At};
 ghost use Rattle.vlog_read.specs.declared.tree.Header.{Header};
-ghost use Rattle.vlog_read.specs.Machine.State.{Top, InItems, finished};
-ghost use Rattle.vlog_read.specs.Machine.Reads.{IsNext, Reads, Gives};
-ghost use Rattle.vlog_read.specs.Machine.Taken.{is_celldefine, so_far, inside};
+ghost use Rattle.vlog_read.specs.inside.Machine.State.{Top, InItems, finished};
+ghost use Rattle.vlog_read.specs.inside.Machine.Reads.{IsNext, Reads, Gives};
+ghost use Rattle.vlog_read.specs.inside.Machine.Taken.{is_celldefine, so_far, inside};
 
 use crate::fault::ParseFault;
 use crate::reader::Reader;

@@ -2,9 +2,9 @@ ghost use Rattle.std.specs.Prelude.{◌≡◌, ◌<◌, Bool, true, false, ◌==
 ghost use Rattle.vlog_lex.specs.declared.token.TokenKind.{TokenKind};
 ghost use Rattle.vlog_lex.specs.declared.token.TokenKind.TheVariants.{Mark, Number, Reserved};
 ghost use Rattle.vlog_read.specs.Grammar.{One, first_at, name, direction};
-ghost use Rattle.vlog_read.specs.Machine.Step.{is_mark, is_word, is_name, is_number, is_literal, is_dir, ends_conn};
-ghost use Rattle.vlog_read.specs.Machine.Reads.{IsNext, Took, TookSome};
-ghost use Rattle.vlog_read.specs.Machine.Taken.{Refuses, Takes, literal, celldefine, is_celldefine};
+ghost use Rattle.vlog_read.specs.inside.Machine.Step.{is_mark, is_word, is_name, is_number, is_literal, is_dir, ends_conn};
+ghost use Rattle.vlog_read.specs.inside.Machine.Reads.{IsNext, Took, TookSome};
+ghost use Rattle.vlog_read.specs.inside.Machine.Taken.{Refuses, Takes, literal, celldefine, is_celldefine};
 
 use crate::fault::ParseFault;
 use crate::refusal::fault_at;

@@ -3,7 +3,7 @@ ghost use Rattle.emh_base.specs.Name.{IsName};
 ghost use Rattle.vlog_lex.specs.declared.token.TokenKind.TheVariants.{Mark, Reserved};
 ghost use Rattle.vlog_read.specs.declared.fault.ParseFault.TheVariants.{Unsupported};
 ghost use Rattle.vlog_read.specs.Sentence.{fault_of, fault_at};
-ghost use Rattle.vlog_read.specs.Machine.Reads.{is_real};
+ghost use Rattle.vlog_read.specs.inside.Machine.Reads.{is_real};
 
 use crate::fault::ParseFault;
 use crate::word;

@@ -5,14 +5,13 @@ ghost use Rattle.flatten_rules.specs.Sound.{IsSound};
 
 use crate::made::{MADE, MADE_WRITTEN};
 use crate::sources::SOURCES;
-use emh_base::{List, ModId, NoMemory, Plain};
+use emh_base::{FILE_LIMIT, List, ModId, NoMemory, Plain};
 use flatten_rules::{flat_lines, is_sound, is_within, module_of};
 use samples::designs::state_of;
 use std::alloc::Global;
 use std::str::from_utf8;
 use std::test::Fail;
 use vlog_elab::read_netlist;
-use vlog_lex::FILE_LIMIT;
 use vlog_write::{write_cells, write_modules};
 
 /// The table of a netlist.

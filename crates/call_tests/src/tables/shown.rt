@@ -1,12 +1,12 @@
 //! A table or a fault as a line of text.
-use emh_base::{Conn, Dir, List, PInst, PModule, PNet, Plain, Range, Src};
+use emh_base::{Conn, Dir, FILE_LIMIT, List, PInst, PModule, PNet, Plain, Range, Src};
 use flatten_rules::is_sound;
 use std::alloc::Global;
 use std::fmt::Write;
 use std::str::from_utf8;
 use std::test::Fail;
 use vlog_elab::{ElabFault, elab};
-use vlog_lex::{FILE_LIMIT, tokens};
+use vlog_lex::tokens;
 use vlog_read::parse;
 
 /// A table without modules, whose next module gets this id.

@@ -1,8 +1,8 @@
 //! A tree or a fault as a line of text: a place stands behind an `@`.
-use emh_base::{Dir, List, NoMemory, Range, push_number};
+use emh_base::{Dir, FILE_LIMIT, List, NoMemory, Range, push_number};
 use std::alloc::Global;
 use std::test::Fail;
-use vlog_lex::{FILE_LIMIT, Tokens, tokens};
+use vlog_lex::{Tokens, tokens};
 use vlog_read::{At, Decl, Header, Item, ParseFault, Part, TConn, TInst, TModule, Tree, parse};
 
 /// What is read from bytes that have tokens.

@@ -13,8 +13,8 @@ use Rattle.vlog_read.specs.declared.tree.Part.{Part}
 use Rattle.vlog_read.specs.declared.tree.Part.TheVariants.{Bit, Bits, Lit}
 use Rattle.vlog_read.specs.Words.{endmodule_word, left_parenthesis, right_parenthesis, colon, semicolon, left_bracket, right_bracket, right_brace}
 use Rattle.vlog_read.specs.Grammar.{the_end}
-use Rattle.vlog_read.specs.Machine.State.{State, SoFar, InModule, DeclFor, InInsts, InInst, InConn, ForHeader, ForItem, module_of, with_item, finished, decl_of, with_range, with_name, range_of, span_of, inst_of, with_conn, with_inst, with_insts, empty_conn, expr_of, with_part, with_expr, Top, ModuleName, AfterModuleName, FirstHeader, HeaderName, AfterHeaderName, HeaderDecl, AfterPorts, AfterDir, AfterWire, RangeLeft, RangeColon, RangeRight, RangeClose, DeclName, AfterDeclName, InItems, InstName, AfterInstName, FirstConn, NextConn, PortName, AfterPortName, FirstExpr, NextExpr, AfterPartName, SelectLeft, AfterSelect, SelectRight, SelectClose, AfterExpr, AfterConn, AfterInst}
-use Rattle.vlog_read.specs.Machine.Step.{ways, step}
+use Rattle.vlog_read.specs.inside.Machine.State.{State, SoFar, InModule, DeclFor, InInsts, InInst, InConn, ForHeader, ForItem, module_of, with_item, finished, decl_of, with_range, with_name, range_of, span_of, inst_of, with_conn, with_inst, with_insts, empty_conn, expr_of, with_part, with_expr, Top, ModuleName, AfterModuleName, FirstHeader, HeaderName, AfterHeaderName, HeaderDecl, AfterPorts, AfterDir, AfterWire, RangeLeft, RangeColon, RangeRight, RangeClose, DeclName, AfterDeclName, InItems, InstName, AfterInstName, FirstConn, NextConn, PortName, AfterPortName, FirstExpr, NextExpr, AfterPartName, SelectLeft, AfterSelect, SelectRight, SelectClose, AfterExpr, AfterConn, AfterInst}
+use Rattle.vlog_read.specs.inside.Machine.Step.{ways, step}
 use Rattle.vlog_read.proofs.Left.Ends.{Ends}
 use Rattle.vlog_read.proofs.Left.Tokens.{chosen}
 use Rattle.vlog_read.proofs.Left.Modules.{back}

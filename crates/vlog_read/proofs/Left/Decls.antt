@@ -11,8 +11,8 @@ use Rattle.vlog_read.specs.declared.tree.Decl.{Decl}
 use Rattle.vlog_read.specs.Words.{wire_word, left_parenthesis, right_parenthesis, comma, semicolon, left_bracket}
 use Rattle.vlog_lex.specs.declared.token.TokenKind.TheVariants.{Mark}
 use Rattle.vlog_read.specs.Grammar.{One, names, range, maybe_range, direction, decl}
-use Rattle.vlog_read.specs.Machine.State.{State, SoFar, DeclFor, ForHeader, ForItem, module_of, decl_of, span_of, AfterModuleName, FirstHeader, AfterHeaderName, HeaderDecl, AfterDir, AfterWire, DeclName, AfterDeclName}
-use Rattle.vlog_read.specs.Machine.Step.{ways, name_of, dir_of}
+use Rattle.vlog_read.specs.inside.Machine.State.{State, SoFar, DeclFor, ForHeader, ForItem, module_of, decl_of, span_of, AfterModuleName, FirstHeader, AfterHeaderName, HeaderDecl, AfterDir, AfterWire, DeclName, AfterDeclName}
+use Rattle.vlog_read.specs.inside.Machine.Step.{ways, name_of, dir_of}
 use Rattle.vlog_read.proofs.Left.Ends.{Ends, ◌and◌, ends_ports, ends_header, ends_module_name, ends_header_name, ends_decl, ends_decl_name, at_decl_name, ends_wire, ends_dir, at_header_decl}
 use Rattle.vlog_read.proofs.Left.Tokens.{Chosen, by_mark, by_word, by_name, by_dir}
 

@@ -18,7 +18,7 @@ use Rattle.vlog_read.specs.declared.tree.Part.{Part}
 use Rattle.vlog_read.specs.declared.tree.Part.TheVariants.{Name, Bit, Bits}
 use Rattle.vlog_read.specs.Words.{endmodule_word, left_parenthesis, right_parenthesis, colon, semicolon, left_bracket, right_bracket, right_brace}
 use Rattle.vlog_read.specs.Grammar.{Reading, One, OneAt, name, more_names, range, direction, maybe_wire, Expr, MoreExprs, maybe_expr, conn, more_conns, conns, inst, more_insts, items, more_port_decls, header, ports, Source, first_at}
-use Rattle.vlog_read.specs.Machine.State.{State, SoFar, InModule, DeclFor, InInsts, InInst, InConn, ForHeader, ForItem, module_of, with_item, finished, decl_of, with_range, with_name, range_of, span_of, inst_of, with_conn, with_inst, with_insts, expr_of, with_part, with_expr, Top, ModuleName, AfterModuleName, FirstHeader, HeaderName, AfterHeaderName, HeaderDecl, AfterPorts, AfterDir, AfterWire, RangeLeft, RangeColon, RangeRight, RangeClose, DeclName, AfterDeclName, InItems, InstName, AfterInstName, FirstConn, NextConn, PortName, AfterPortName, FirstExpr, NextExpr, AfterPartName, SelectLeft, AfterSelect, SelectRight, SelectClose, AfterExpr, AfterConn, AfterInst}
+use Rattle.vlog_read.specs.inside.Machine.State.{State, SoFar, InModule, DeclFor, InInsts, InInst, InConn, ForHeader, ForItem, module_of, with_item, finished, decl_of, with_range, with_name, range_of, span_of, inst_of, with_conn, with_inst, with_insts, expr_of, with_part, with_expr, Top, ModuleName, AfterModuleName, FirstHeader, HeaderName, AfterHeaderName, HeaderDecl, AfterPorts, AfterDir, AfterWire, RangeLeft, RangeColon, RangeRight, RangeClose, DeclName, AfterDeclName, InItems, InstName, AfterInstName, FirstConn, NextConn, PortName, AfterPortName, FirstExpr, NextExpr, AfterPartName, SelectLeft, AfterSelect, SelectRight, SelectClose, AfterExpr, AfterConn, AfterInst}
 use Rattle.vlog_read.proofs.Spelled.Decls.{with_names}
 use Rattle.vlog_read.proofs.Spelled.Exprs.{with_parts, with_conns, more_insts_of}
 use Rattle.vlog_read.proofs.Spelled.Modules.{with_items}

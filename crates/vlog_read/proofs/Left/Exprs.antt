@@ -11,8 +11,8 @@ use Rattle.vlog_read.specs.declared.tree.Part.{Part}
 use Rattle.vlog_read.specs.declared.tree.Part.TheVariants.{Name, Bit, Bits}
 use Rattle.vlog_read.specs.Words.{right_parenthesis, comma, dot, colon, semicolon, left_bracket, right_bracket, left_brace, right_brace}
 use Rattle.vlog_read.specs.Grammar.{One, part, Expr, alone, joined, no_more, one_more, maybe_expr, conn, lone_conn, first_at}
-use Rattle.vlog_read.specs.Machine.State.{InInsts, InInst, InConn, range_of, insts_of, with_conn, with_inst, with_insts, conn_of, empty_conn, expr_of, with_part, with_expr, InstName, FirstConn, NextConn, FirstExpr, NextExpr, AfterPartName, AfterSelect, AfterExpr, AfterConn, AfterInst}
-use Rattle.vlog_read.specs.Machine.Step.{is_mark, end_of_expr, some_conn, name_of, literal_of}
+use Rattle.vlog_read.specs.inside.Machine.State.{InInsts, InInst, InConn, range_of, insts_of, with_conn, with_inst, with_insts, conn_of, empty_conn, expr_of, with_part, with_expr, InstName, FirstConn, NextConn, FirstExpr, NextExpr, AfterPartName, AfterSelect, AfterExpr, AfterConn, AfterInst}
+use Rattle.vlog_read.specs.inside.Machine.Step.{is_mark, end_of_expr, some_conn, name_of, literal_of}
 use Rattle.vlog_read.proofs.Spelled.Exprs.{not_empty, parts_of, with_parts, conns_of, with_conns, lone_is_conn}
 use Rattle.vlog_read.proofs.Left.Ends.{Ends, ◌and◌, ends_items, ends_inst, at_inst, at_conns, ends_conn, at_conn, at_port_expr, ends_whole_expr, ends_expr, at_expr, ends_select, ends_part_name}
 use Rattle.vlog_read.proofs.Left.Tokens.{Chosen, by_mark, by_mark_at, by_name, by_literal}

@@ -8,8 +8,8 @@ use Rattle.vlog_read.specs.declared.tree.Item.{Item}
 use Rattle.vlog_read.specs.declared.tree.Item.TheVariants.{Decl as Declaration, Insts}
 use Rattle.vlog_read.specs.Words.{endmodule_word, module_word, wire_word, left_parenthesis, colon, semicolon, right_bracket}
 use Rattle.vlog_read.specs.Grammar.{One, item, one_module, cell, end_cell, next_module}
-use Rattle.vlog_read.specs.Machine.State.{State, SoFar, InModule, ForItem, with_item, finished, Top, ModuleName, AfterModuleName, FirstHeader, HeaderName, AfterHeaderName, HeaderDecl, AfterPorts, AfterDir, AfterWire, RangeLeft, RangeColon, RangeRight, RangeClose, DeclName, AfterDeclName, InItems, InstName, AfterInstName, FirstConn, NextConn, PortName, AfterPortName, FirstExpr, NextExpr, AfterPartName, SelectLeft, AfterSelect, SelectRight, SelectClose, AfterExpr, AfterConn, AfterInst}
-use Rattle.vlog_read.specs.Machine.Step.{number_of, name_of, dir_of}
+use Rattle.vlog_read.specs.inside.Machine.State.{State, SoFar, InModule, ForItem, with_item, finished, Top, ModuleName, AfterModuleName, FirstHeader, HeaderName, AfterHeaderName, HeaderDecl, AfterPorts, AfterDir, AfterWire, RangeLeft, RangeColon, RangeRight, RangeClose, DeclName, AfterDeclName, InItems, InstName, AfterInstName, FirstConn, NextConn, PortName, AfterPortName, FirstExpr, NextExpr, AfterPartName, SelectLeft, AfterSelect, SelectRight, SelectClose, AfterExpr, AfterConn, AfterInst}
+use Rattle.vlog_read.specs.inside.Machine.Step.{number_of, name_of, dir_of}
 use Rattle.vlog_read.proofs.Spelled.Modules.{items_of}
 use Rattle.vlog_read.proofs.Left.Ends.{Ends, ends_top, ends_items}
 use Rattle.vlog_read.proofs.Left.Tokens.{by_mark, by_word, by_name, by_number, by_cell, by_end_cell, by_dir}

@@ -9,8 +9,8 @@ use Rattle.vlog_lex.specs.declared.token.TokenKind.{TokenKind}
 use Rattle.vlog_lex.specs.declared.token.TokenKind.TheVariants.{Ident, Reserved, Cell, EndCell, Number, Literal, Mark}
 use Rattle.vlog_read.specs.Words.{input_word, output_word, inout_word, dir_word}
 use Rattle.vlog_read.specs.Grammar.{One, OneAt, name, part, direction}
-use Rattle.vlog_read.specs.Machine.State.{State}
-use Rattle.vlog_read.specs.Machine.Step.{is_mark, is_word, is_name, is_number, is_literal, is_cell, is_end_cell, is_dir, text_of, name_of, number_of, literal_of, dir_of, taken}
+use Rattle.vlog_read.specs.inside.Machine.State.{State}
+use Rattle.vlog_read.specs.inside.Machine.Step.{is_mark, is_word, is_name, is_number, is_literal, is_cell, is_end_cell, is_dir, text_of, name_of, number_of, literal_of, dir_of, taken}
 
 -- one of the ways is taken, and it leads to a state of which E holds
 abbrev pub Chosen : List (Bool × State) → (State → Type 0) → Type 0

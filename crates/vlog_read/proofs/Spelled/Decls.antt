@@ -12,9 +12,9 @@ use Rattle.vlog_read.specs.declared.tree.Decl.{Decl}
 use Rattle.vlog_read.specs.declared.tree.Item.TheVariants.{Decl as Declaration}
 use Rattle.vlog_read.specs.Words.{wire_word, right_parenthesis, semicolon}
 use Rattle.vlog_read.specs.Grammar.{One, name, names, more_names, range, maybe_range, direction, maybe_wire, decl, port_decl, more_port_decls, header, ports}
-use Rattle.vlog_read.specs.Machine.State.{SoFar, InModule, DeclFor, ForHeader, ForItem, module_of, with_item, decl_of, with_range, with_name, AfterModuleName, FirstHeader, AfterHeaderName, HeaderDecl, AfterPorts, AfterDir, AfterWire, DeclName, AfterDeclName, InItems}
-use Rattle.vlog_read.specs.Machine.Step.{is_word, read}
-use Rattle.vlog_read.specs.Machine.Reads.{IsNext}
+use Rattle.vlog_read.specs.inside.Machine.State.{SoFar, InModule, DeclFor, ForHeader, ForItem, module_of, with_item, decl_of, with_range, with_name, AfterModuleName, FirstHeader, AfterHeaderName, HeaderDecl, AfterPorts, AfterDir, AfterWire, DeclName, AfterDeclName, InItems}
+use Rattle.vlog_read.specs.inside.Machine.Step.{is_word, read}
+use Rattle.vlog_read.specs.inside.Machine.Reads.{IsNext}
 use Rattle.vlog_read.proofs.Passing.{no_wire}
 
 -- a declaration with more names

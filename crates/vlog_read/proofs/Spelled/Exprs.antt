@@ -12,10 +12,10 @@ use Rattle.vlog_read.specs.declared.tree.Part.{Part}
 use Rattle.vlog_read.specs.declared.tree.Part.TheVariants.{Name, Bit, Bits, Lit}
 use Rattle.vlog_read.specs.Words.{comma, dot, right_parenthesis, semicolon, left_bracket, left_brace, right_brace}
 use Rattle.vlog_read.specs.Grammar.{One, name, part, Expr, MoreExprs, alone, joined, no_more, one_more, by_order, by_name, conn, lone_conn, more_conns, conns, inst, more_insts, insts, first_at}
-use Rattle.vlog_read.specs.Machine.State as state
-use Rattle.vlog_read.specs.Machine.State.{InModule, InInsts, InInst, InConn, with_item, insts_of, inst_of, with_conn, with_inst, with_insts, empty_conn, expr_of, with_part, with_expr, InItems, InstName, AfterInstName, FirstConn, NextConn, PortName, AfterPortName, FirstExpr, NextExpr, AfterPartName, AfterExpr, AfterConn, AfterInst}
-use Rattle.vlog_read.specs.Machine.Step.{is_mark, ends_conn, read}
-use Rattle.vlog_read.specs.Machine.Reads.{IsNext}
+use Rattle.vlog_read.specs.inside.Machine.State as state
+use Rattle.vlog_read.specs.inside.Machine.State.{InModule, InInsts, InInst, InConn, with_item, insts_of, inst_of, with_conn, with_inst, with_insts, empty_conn, expr_of, with_part, with_expr, InItems, InstName, AfterInstName, FirstConn, NextConn, PortName, AfterPortName, FirstExpr, NextExpr, AfterPartName, AfterExpr, AfterConn, AfterInst}
+use Rattle.vlog_read.specs.inside.Machine.Step.{is_mark, ends_conn, read}
+use Rattle.vlog_read.specs.inside.Machine.Reads.{IsNext}
 use Rattle.vlog_read.proofs.Passing.{some_conn, no_conn, conn_by_order, end_by_order, some_expr, no_select}
 
 -- an expression with these parts, and with more parts

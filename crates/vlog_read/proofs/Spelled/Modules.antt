@@ -8,8 +8,8 @@ use Rattle.vlog_read.specs.declared.tree.Item.{Item}
 use Rattle.vlog_read.specs.declared.tree.Item.TheVariants.{Decl as Declaration, Insts}
 use Rattle.vlog_read.specs.Grammar.{item, items, one_module, Source, the_end, cell, end_cell, next_module}
 use Rattle.vlog_read.specs.Sentence.{Spells}
-use Rattle.vlog_read.specs.Machine.State.{State, SoFar, InModule, module_of, with_item, Top, InItems}
-use Rattle.vlog_read.specs.Machine.Step.{read, start}
+use Rattle.vlog_read.specs.inside.Machine.State.{State, SoFar, InModule, module_of, with_item, Top, InItems}
+use Rattle.vlog_read.specs.inside.Machine.Step.{read, start}
 use Rattle.vlog_read.proofs.Spelled.Decls.{decl_item, ports_read}
 use Rattle.vlog_read.proofs.Spelled.Exprs.{insts_item}
 

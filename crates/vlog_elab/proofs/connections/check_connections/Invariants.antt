@@ -8,4 +8,4 @@ use Rattle.vlog_elab.specs.Connections.{inner_checks}
 use Rattle.vlog_elab.proofs.connections.check_connections.Given as goal
 
 abbrev pub invariant-loop-m : goal.invariant-loop-m
-invariant-loop-m l = first_broken (flat_map (λ (m : TModule). if is_leaf l.all_leaf m then [] else inner_checks l.faces m) (take l.m-index l.modules)) ≡ None
+invariant-loop-m l = first_broken (flat_map (λ (m : TModule). if is_leaf l.all_leaf m then [] else inner_checks l.interfaces m) (take l.m-index l.modules)) ≡ None

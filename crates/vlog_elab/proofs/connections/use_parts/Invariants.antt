@@ -1,6 +1,6 @@
 use Rattle.std.proofs.Common.{take, map}
-use Rattle.vlog_elab.specs.Walk.{Passed}
-use Rattle.vlog_elab.specs.Walks.{step_walk}
+use Rattle.vlog_elab.specs.inside.Walk.{Passed}
+use Rattle.vlog_elab.specs.inside.Walks.{step_walk}
 use Rattle.vlog_elab.specs.Steps.{Uses}
 use Rattle.vlog_elab.proofs.connections.use_parts.Given as goal
 

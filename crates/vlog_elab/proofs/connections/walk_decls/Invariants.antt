@@ -1,7 +1,7 @@
 use Rattle.std.proofs.Common.{take}
 use Rattle.std.specs.List.{flat_map}
-use Rattle.vlog_elab.specs.Walk.{Passed}
-use Rattle.vlog_elab.specs.Walks.{step_walk}
+use Rattle.vlog_elab.specs.inside.Walk.{Passed}
+use Rattle.vlog_elab.specs.inside.Walks.{step_walk}
 use Rattle.vlog_elab.specs.Steps.{decl_steps}
 use Rattle.vlog_elab.proofs.connections.walk_decls.Given as goal
 

@@ -7,7 +7,7 @@ use Rattle.vlog_elab.proofs.connections.walk_items.Goals as goal
 pub returns-in_err-walk_item : goal.returns-in_err-walk_item
 returns-in_err-walk_item c =
     let p = err_from_is_err_and c.from_residual.result c.from_residual.ensures.1 in
-    rw (p.1, p.2) (fails-flat (item_steps c.args.faces.now) c.args.items.now c.loop-item.item-index c.item-item.result (omega arith) c.item-item.is c.loop-item.invariant c.in_err-walk_item.ensures)
+    rw (p.1, p.2) (fails-flat (item_steps c.args.interfaces.now) c.args.items.now c.loop-item.item-index c.item-item.result (omega arith) c.item-item.is c.loop-item.invariant c.in_err-walk_item.ensures)
 
 pub loop-item-preserved : goal.loop-item-preserved
-loop-item-preserved c = more-flat (item_steps c.args.faces.now) c.args.items.now c.loop-item.item-index c.item-item.result (omega arith) c.item-item.is c.loop-item.invariant c.in_ok-walk_item.ensures
+loop-item-preserved c = more-flat (item_steps c.args.interfaces.now) c.args.items.now c.loop-item.item-index c.item-item.result (omega arith) c.item-item.is c.loop-item.invariant c.in_ok-walk_item.ensures

@@ -1,6 +1,6 @@
 use Rattle.std.proofs.Common.{arith, ◌≡◌, ◌+◌, ◌++◌, take, length, sym, ◌∙◌, ap}
 use Rattle.std.proofs.lemmas.List.{length-take-le}
-use Rattle.vlog_elab.specs.Pins.{pin_at, pins_from}
+use Rattle.vlog_elab.specs.inside.Pins.{pin_at, pins_from}
 use Rattle.vlog_elab.proofs.Walking.{one_more}
 use Rattle.vlog_elab.proofs.Sourcing.{pins_from-push}
 use Rattle.vlog_elab.proofs.conns.pins_of.Goals as goal

@@ -1,7 +1,7 @@
 use Rattle.std.proofs.Common.{take}
 use Rattle.std.specs.List.{flat_map}
-use Rattle.vlog_elab.specs.Walk.{Passed}
-use Rattle.vlog_elab.specs.Walks.{header_walk}
+use Rattle.vlog_elab.specs.inside.Walk.{Passed}
+use Rattle.vlog_elab.specs.inside.Walks.{header_walk}
 use Rattle.vlog_read.specs.declared.tree.Decl.{Decl}
 use Rattle.vlog_elab.proofs.declarations.add_decls.Given as goal
 

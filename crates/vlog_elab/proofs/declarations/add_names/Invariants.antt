@@ -1,6 +1,6 @@
 use Rattle.std.proofs.Common.{take}
-use Rattle.vlog_elab.specs.Walk.{Passed}
-use Rattle.vlog_elab.specs.Walks.{header_walk}
+use Rattle.vlog_elab.specs.inside.Walk.{Passed}
+use Rattle.vlog_elab.specs.inside.Walks.{header_walk}
 use Rattle.vlog_elab.proofs.declarations.add_names.Given as goal
 
 abbrev pub invariant-loop-name : goal.invariant-loop-name

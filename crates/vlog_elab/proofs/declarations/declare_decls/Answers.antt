@@ -1,6 +1,6 @@
 use Rattle.std.proofs.Common.{arith}
 use Rattle.std.proofs.lemmas.Result.{err_from_is_err_and}
-use Rattle.vlog_elab.specs.Faces.{decl_places}
+use Rattle.vlog_elab.specs.Interfaces.{decl_places}
 use Rattle.vlog_elab.proofs.Walking.{more-flat, fails-flat}
 use Rattle.vlog_elab.proofs.declarations.declare_decls.Goals as goal
 

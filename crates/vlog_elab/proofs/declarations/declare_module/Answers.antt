@@ -1,6 +1,6 @@
 use Rattle.std.specs.List.{flat_map}
 use Rattle.std.proofs.lemmas.Result.{err_from_is_err_and}
-use Rattle.vlog_elab.specs.Faces.{item_places}
+use Rattle.vlog_elab.specs.Interfaces.{item_places}
 use Rattle.vlog_elab.proofs.Walking.{walks-then, fails-before}
 use Rattle.vlog_elab.proofs.declarations.declare_module.Goals as goal
 

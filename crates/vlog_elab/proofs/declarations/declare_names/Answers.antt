@@ -1,6 +1,6 @@
 use Rattle.std.proofs.Common.{arith}
 use Rattle.std.proofs.lemmas.Result.{err_from_is_err_and}
-use Rattle.vlog_elab.specs.Faces.{name_place}
+use Rattle.vlog_elab.specs.Interfaces.{name_place}
 use Rattle.vlog_elab.specs.Text.{range_of}
 use Rattle.vlog_elab.proofs.Walking.{more-map, fails-map}
 use Rattle.vlog_elab.proofs.declarations.declare_names.Goals as goal

@@ -1,7 +1,7 @@
 use Rattle.std.proofs.Common.{take, map}
-use Rattle.vlog_elab.specs.Walk.{Passed}
-use Rattle.vlog_elab.specs.Walks.{place_walk}
-use Rattle.vlog_elab.specs.Faces.{name_place}
+use Rattle.vlog_elab.specs.inside.Walk.{Passed}
+use Rattle.vlog_elab.specs.inside.Walks.{place_walk}
+use Rattle.vlog_elab.specs.Interfaces.{name_place}
 use Rattle.vlog_elab.specs.Text.{range_of}
 use Rattle.vlog_elab.proofs.declarations.declare_names.Given as goal
 

@@ -1,5 +1,5 @@
 use Rattle.std.proofs.Common.{arith, ◌≡◌, Some, length, take, true, false, refl, sym, ◌∙◌, ap, slice_get}
-use Rattle.vlog_elab.specs.Faces.{added}
+use Rattle.vlog_elab.specs.Interfaces.{added}
 use Rattle.vlog_elab.proofs.Adding.{count-again, count-new}
 use Rattle.vlog_elab.proofs.elaborate.recursive.Goals as goal
 

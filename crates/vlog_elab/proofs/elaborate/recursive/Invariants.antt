@@ -1,5 +1,5 @@
 use Rattle.std.proofs.Common.{◌≡◌, ◌+◌, ◌≤◌, take, length}
-use Rattle.vlog_elab.specs.Faces.{added}
+use Rattle.vlog_elab.specs.Interfaces.{added}
 use Rattle.vlog_elab.proofs.elaborate.recursive.Given as goal
 
 abbrev pub invariant-loop-m : goal.invariant-loop-m

@@ -1,6 +1,6 @@
 use Rattle.std.proofs.Common.{take}
-use Rattle.vlog_elab.specs.Walk.{Passed}
-use Rattle.vlog_elab.specs.Walks.{module_walk}
+use Rattle.vlog_elab.specs.inside.Walk.{Passed}
+use Rattle.vlog_elab.specs.inside.Walks.{module_walk}
 use Rattle.vlog_elab.proofs.modules.add_modules.Given as goal
 
 abbrev pub invariant-loop-m : goal.invariant-loop-m

@@ -1,5 +1,5 @@
 use Rattle.std.proofs.Common.{◌≡◌, map, take}
-use Rattle.vlog_elab.specs.Faces.{row_port}
+use Rattle.vlog_elab.specs.Interfaces.{row_port}
 use Rattle.vlog_elab.proofs.modules.add_row.Given as goal
 
 abbrev pub invariant-loop-port : goal.invariant-loop-port

@@ -1,4 +1,4 @@
-use Rattle.vlog_elab.specs.Placed.{place_at}
+use Rattle.vlog_elab.specs.inside.Placed.{place_at}
 use Rattle.vlog_elab.proofs.Naming.{agrees-next}
 use Rattle.vlog_elab.proofs.names.places_of.Goals as goal
 

@@ -1,6 +1,6 @@
 use Rattle.std.proofs.Common.{take}
-use Rattle.vlog_elab.specs.Agree.{Agrees}
-use Rattle.vlog_elab.specs.Placed.{place_at}
+use Rattle.vlog_elab.specs.inside.Agree.{Agrees}
+use Rattle.vlog_elab.specs.inside.Placed.{place_at}
 use Rattle.vlog_elab.proofs.names.places_of.Given as goal
 
 abbrev pub invariant-loop-place : goal.invariant-loop-place

@@ -1,7 +1,7 @@
 use Rattle.std.proofs.Common.{◌≡◌, take}
 use Rattle.std.specs.List.{flat_map}
 use Rattle.vlog_elab.specs.Table.{item_nets}
-use Rattle.vlog_elab.specs.Walks.{with_new}
+use Rattle.vlog_elab.specs.inside.Walks.{with_new}
 use Rattle.vlog_elab.proofs.nets.meet_items.Given as goal
 
 abbrev pub invariant-loop-item : goal.invariant-loop-item

@@ -1,6 +1,6 @@
 use Rattle.std.proofs.Common.{◌≡◌, take, map}
 use Rattle.vlog_elab.specs.Table.{name_net}
-use Rattle.vlog_elab.specs.Walks.{with_new}
+use Rattle.vlog_elab.specs.inside.Walks.{with_new}
 use Rattle.vlog_elab.proofs.nets.meet_names.Given as goal
 
 abbrev pub invariant-loop-name : goal.invariant-loop-name

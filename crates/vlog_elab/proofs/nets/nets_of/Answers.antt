@@ -4,7 +4,7 @@ use Rattle.vlog_elab.specs.Named.{Named}
 use Rattle.vlog_elab.specs.declared.scope.Net.{Net}
 use Rattle.vlog_elab.specs.Text.{header_decls}
 use Rattle.vlog_elab.specs.Table.{decl_nets, item_nets}
-use Rattle.vlog_elab.specs.Walks.{with_new}
+use Rattle.vlog_elab.specs.inside.Walks.{with_new}
 use Rattle.vlog_elab.proofs.Meeting.{with_new-append, firsts-from_none}
 use Rattle.vlog_elab.proofs.nets.nets_of.Goals as goal
 

@@ -6,6 +6,6 @@ use Rattle.vlog_elab.proofs.rows.add_insts.Goals as goal
 
 pub loop-inst-preserved : goal.loop-inst-preserved
 loop-inst-preserved c =
-    rows_after_more (inst_row c.args.faces.now c.args.nets.now) (λ (i : TInst). (c.args.master.now, i)) c.args.rows.now c.loop-inst.rows c.push.new.self
+    rows_after_more (inst_row c.args.interfaces.now c.args.nets.now) (λ (i : TInst). (c.args.master.now, i)) c.args.rows.now c.loop-inst.rows c.push.new.self
     c.args.insts.now c.loop-inst.inst-index c.inst-item.result c.in_ok-row.row
-    (omega arith) c.inst-item.is c.loop-inst.invariant (c.in_ok-row.ensures ∙ ap (λ n. inst_row c.args.faces.now c.args.nets.now n (c.args.master.now, c.inst-item.result)) c.len.ensures) c.in_ok-push.ensures.ok
+    (omega arith) c.inst-item.is c.loop-inst.invariant (c.in_ok-row.ensures ∙ ap (λ n. inst_row c.args.interfaces.now c.args.nets.now n (c.args.master.now, c.inst-item.result)) c.len.ensures) c.in_ok-push.ensures.ok

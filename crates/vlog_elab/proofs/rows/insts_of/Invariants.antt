@@ -5,4 +5,4 @@ use Rattle.vlog_elab.specs.Table.{inst_row, insts_in}
 use Rattle.vlog_elab.proofs.rows.insts_of.Given as goal
 
 abbrev pub invariant-loop-item : goal.invariant-loop-item
-invariant-loop-item l = l.rows ≡ numbered (inst_row l.faces l.nets) 0 (flat_map insts_in (take l.item-index l.items))
+invariant-loop-item l = l.rows ≡ numbered (inst_row l.interfaces l.nets) 0 (flat_map insts_in (take l.item-index l.items))

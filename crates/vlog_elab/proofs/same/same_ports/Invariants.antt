@@ -1,5 +1,5 @@
 use Rattle.std.proofs.Common.{◌≡◌, drop}
-use Rattle.vlog_elab.specs.Faces.{same_ports}
+use Rattle.vlog_elab.specs.Interfaces.{same_ports}
 use Rattle.vlog_elab.proofs.same.same_ports.Given as goal
 
 abbrev pub invariant-loop-place : goal.invariant-loop-place

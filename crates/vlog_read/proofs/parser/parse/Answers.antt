@@ -1,6 +1,6 @@
 use Rattle.std.proofs.Common.{List, subst}
 use Rattle.vlog_lex.specs.declared.token.Token.{Token}
-use Rattle.vlog_read.specs.Machine.Reads.{Gives}
+use Rattle.vlog_read.specs.inside.Machine.Reads.{Gives}
 use Rattle.vlog_read.proofs.OneAnswer.{is_tree, is_fault, each_tree, each_fault}
 use Rattle.vlog_read.proofs.parser.parse.Goals as goal
 

@@ -1,6 +1,6 @@
 use Rattle.std.proofs.Common.{rules, ◌≡◌, sym, ◌∙◌, ap, bytes_eq}
 use Rattle.std.specs.List.{position}
-use Rattle.vlog_elab.specs.Agree.{texts}
+use Rattle.vlog_elab.specs.inside.Agree.{texts}
 use Rattle.vlog_elab.specs.Named.{place_of}
 use Rattle.vlog_elab.proofs.Naming.{position-place}
 use Rattle.vlog_elab.proofs.names.Names.find.Goals as goal

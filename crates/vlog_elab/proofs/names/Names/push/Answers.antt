@@ -1,5 +1,5 @@
 use Rattle.std.proofs.Common.{rules}
-use Rattle.vlog_elab.specs.Placed.{place_at}
+use Rattle.vlog_elab.specs.inside.Placed.{place_at}
 use Rattle.vlog_elab.proofs.Naming.{agrees-push}
 use Rattle.vlog_elab.proofs.names.Names.push.Goals as goal
 

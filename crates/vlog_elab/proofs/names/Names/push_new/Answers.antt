@@ -1,6 +1,6 @@
 use Rattle.std.proofs.Common.{arith, rules, ◌≡◌, ◌++◌, ◌∷◌, [], length, refl, ◌∙◌, ap}
-use Rattle.vlog_elab.specs.Agree.{texts}
-use Rattle.vlog_elab.specs.Placed.{place_at}
+use Rattle.vlog_elab.specs.inside.Agree.{texts}
+use Rattle.vlog_elab.specs.inside.Placed.{place_at}
 use Rattle.vlog_elab.proofs.Naming.{texts-push, agrees-push, agrees-kept, fresh-push, old-push, old-there, pushed-popped}
 use Rattle.vlog_elab.proofs.names.Names.push_new.Goals as goal
 

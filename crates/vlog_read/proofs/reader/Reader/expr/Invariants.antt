@@ -1,7 +1,7 @@
 use Rattle.std.proofs.Common.{◌≡◌, ℕ, ◌+◌, ◌≤◌, [], Option, length}
 use Rattle.vlog_read.specs.declared.tree.At.{At}
-use Rattle.vlog_read.specs.Machine.State.{InInst, NextExpr, expr_of}
-use Rattle.vlog_read.specs.Machine.Step.{read}
+use Rattle.vlog_read.specs.inside.Machine.State.{InInst, NextExpr, expr_of}
+use Rattle.vlog_read.specs.inside.Machine.Step.{read}
 use Rattle.vlog_read.proofs.reader.Reader.expr.Given as goal
 
 abbrev pub invariant-loop-parts : goal.invariant-loop-parts

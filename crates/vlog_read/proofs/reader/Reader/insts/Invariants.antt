@@ -1,7 +1,7 @@
 use Rattle.std.proofs.Common.{◌≡◌, ◌≤◌, [], length}
 use Rattle.vlog_read.specs.declared.tree.At.{At}
-use Rattle.vlog_read.specs.Machine.State.{InModule, InstName, insts_of}
-use Rattle.vlog_read.specs.Machine.Step.{read}
+use Rattle.vlog_read.specs.inside.Machine.State.{InModule, InstName, insts_of}
+use Rattle.vlog_read.specs.inside.Machine.Step.{read}
 use Rattle.vlog_read.proofs.reader.Reader.insts.Given as goal
 
 abbrev pub invariant-loop-insts : goal.invariant-loop-insts

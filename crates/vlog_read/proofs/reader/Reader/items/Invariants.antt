@@ -2,9 +2,9 @@ use Rattle.std.proofs.Common.{◌≡◌, ◌≤◌, Bool, List, [], length}
 use Rattle.vlog_read.specs.declared.tree.TModule.{TModule}
 use Rattle.vlog_read.specs.declared.tree.At.{At}
 use Rattle.vlog_read.specs.declared.tree.Header.{Header}
-use Rattle.vlog_read.specs.Machine.State.{InItems}
-use Rattle.vlog_read.specs.Machine.Step.{read}
-use Rattle.vlog_read.specs.Machine.Taken.{inside}
+use Rattle.vlog_read.specs.inside.Machine.State.{InItems}
+use Rattle.vlog_read.specs.inside.Machine.Step.{read}
+use Rattle.vlog_read.specs.inside.Machine.Taken.{inside}
 use Rattle.vlog_read.proofs.reader.Reader.items.Given as goal
 
 abbrev pub invariant-loop-self : goal.invariant-loop-self

@@ -1,6 +1,6 @@
 use Rattle.std.proofs.Common.{◌≡◌, ◌+◌, ◌≤◌, length}
-use Rattle.vlog_read.specs.Machine.State.{InConn, NextExpr}
-use Rattle.vlog_read.specs.Machine.Step.{read}
+use Rattle.vlog_read.specs.inside.Machine.State.{InConn, NextExpr}
+use Rattle.vlog_read.specs.inside.Machine.Step.{read}
 use Rattle.vlog_read.proofs.reader.Reader.left_braces.Given as goal
 
 abbrev pub invariant-loop-depth : goal.invariant-loop-depth

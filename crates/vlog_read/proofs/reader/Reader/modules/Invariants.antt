@@ -1,7 +1,7 @@
 use Rattle.std.proofs.Common.{◌≡◌, length}
-use Rattle.vlog_read.specs.Machine.State.{Top}
-use Rattle.vlog_read.specs.Machine.Step.{read, start}
-use Rattle.vlog_read.specs.Machine.Taken.{so_far}
+use Rattle.vlog_read.specs.inside.Machine.State.{Top}
+use Rattle.vlog_read.specs.inside.Machine.Step.{read, start}
+use Rattle.vlog_read.specs.inside.Machine.Taken.{so_far}
 use Rattle.vlog_read.proofs.reader.Reader.modules.Given as goal
 
 abbrev pub invariant-loop-self : goal.invariant-loop-self

@@ -2,8 +2,8 @@ use Rattle.std.proofs.Common.{◌≡◌, ◌≤◌, Bool, Option, length}
 use Rattle.emh_base.specs.declared.plain.Dir.{Dir}
 use Rattle.vlog_read.specs.declared.tree.At.{At}
 use Rattle.vlog_read.specs.declared.tree.Span.{Span}
-use Rattle.vlog_read.specs.Machine.State.{InModule, SoFar, ForItem, AfterHeaderName, AfterDeclName, decl_of}
-use Rattle.vlog_read.specs.Machine.Step.{read}
+use Rattle.vlog_read.specs.inside.Machine.State.{InModule, SoFar, ForItem, AfterHeaderName, AfterDeclName, decl_of}
+use Rattle.vlog_read.specs.inside.Machine.Step.{read}
 use Rattle.vlog_read.proofs.reader.Reader.more_names.Given as goal
 
 abbrev pub invariant-loop-self : goal.invariant-loop-self

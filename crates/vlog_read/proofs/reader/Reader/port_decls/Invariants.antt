@@ -1,7 +1,7 @@
 use Rattle.std.proofs.Common.{◌≡◌, ◌≤◌, [], length}
 use Rattle.vlog_read.specs.declared.tree.At.{At}
-use Rattle.vlog_read.specs.Machine.State.{SoFar, ForHeader, AfterDir, AfterDeclName}
-use Rattle.vlog_read.specs.Machine.Step.{read}
+use Rattle.vlog_read.specs.inside.Machine.State.{SoFar, ForHeader, AfterDir, AfterDeclName}
+use Rattle.vlog_read.specs.inside.Machine.Step.{read}
 use Rattle.vlog_read.proofs.reader.Reader.port_decls.Given as goal
 
 abbrev pub invariant-loop-self : goal.invariant-loop-self

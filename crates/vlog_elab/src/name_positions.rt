@@ -1,9 +1,9 @@
-//! Places of names.
+//! Positions of names.
 ghost use Rattle.std.specs.Prelude.{◌≡◌, ℕ, List, None, Some, if◌then◌else◌, bytes_eq, nat_eq, unwrap_or, IfOk, OnErr};
 ghost use Rattle.std.specs.Ordering.{nat_cmp};
 ghost use Rattle.std.specs.Cmp.Lexicographic.{slice_cmp};
 ghost use Rattle.std.specs.BTreeMap.{get_by, IsUnchanged};
-ghost use Rattle.vlog_elab.specs.Placed.{number_of, place_at, AreWhole, FirstIs};
+ghost use Rattle.vlog_elab.specs.inside.Placed.{number_of, place_at, AreWhole, FirstIs};
 
 use emh_base::NoMemory;
 use std::alloc::Global;
@@ -15,7 +15,7 @@ use std::collections::BTreeMap;
 /// they are ordered by a number that each has, and the bytes of a name are compared once. A name whose number another one
 /// has is in an ordered map of names.
 #[derive(Drop)]
-pub struct Places<'a> {
+pub struct NamePositions<'a> {
     /// The first name of each number, with its place.
     by_number: BTreeMap<u64, (&'a [u8], usize)>,
     /// The places of the other names.
@@ -23,12 +23,12 @@ pub struct Places<'a> {
     ghost whole: { AreWhole by_number by_name },
 }
 
-impl<'a> Places<'a> {
+impl<'a> NamePositions<'a> {
     /// No places. It takes no memory yet.
-    pub fn new(alloc: Global) -> Places<'a>
+    pub fn new(alloc: Global) -> NamePositions<'a>
         ensures { (name : List ℕ) → place_at result.by_number result.by_name name ≡ None }
     {
-        Places {
+        NamePositions {
             by_number: BTreeMap::new(alloc),
             by_name: BTreeMap::new(alloc),
         }

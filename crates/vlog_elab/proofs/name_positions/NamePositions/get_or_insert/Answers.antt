@@ -2,10 +2,10 @@ use Rattle.std.proofs.Common.{rules, ◌≡◌, ◌≢◌, ℕ, List, ◌∙◌,
 use Rattle.std.specs.Ordering.{nat_cmp}
 use Rattle.std.specs.Cmp.Lexicographic.{slice_cmp}
 use Rattle.std.specs.BTreeMap.{get_by}
-use Rattle.vlog_elab.specs.Placed.{number_of, place_by, place_at}
+use Rattle.vlog_elab.specs.inside.Placed.{number_of, place_by, place_at}
 use Rattle.vlog_elab.proofs.Naming.{same_name, bytes_eq-refl}
 use Rattle.vlog_elab.proofs.Placing.{whole-first, place-first, old-first, numbers-kept, place-after, whole-after, others-kept, on-err}
-use Rattle.vlog_elab.proofs.places.Places.get_or_insert.Goals as goal
+use Rattle.vlog_elab.proofs.name_positions.NamePositions.get_or_insert.Goals as goal
 
 pub invariant_of-self-then-eq : goal.invariant_of-self-then-eq
 invariant_of-self-then-eq c =

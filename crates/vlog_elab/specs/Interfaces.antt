@@ -16,9 +16,9 @@ use Rattle.vlog_read.specs.declared.tree.Decl.{Decl}
 use Rattle.vlog_read.specs.declared.tree.Item.{Item}
 use Rattle.vlog_read.specs.declared.tree.Item.TheVariants.{Decl as Declaration, Insts}
 use Rattle.vlog_read.specs.declared.tree.TModule.{TModule}
-use Rattle.vlog_elab.specs.declared.face.Port.{Port}
-use Rattle.vlog_elab.specs.declared.face.Face.{Face}
-use Rattle.vlog_elab.specs.declared.face.Known.{Known}
+use Rattle.vlog_elab.specs.declared.interface.Port.{Port}
+use Rattle.vlog_elab.specs.declared.interface.Interface.{Interface}
+use Rattle.vlog_elab.specs.declared.interface.Known.{Known}
 use Rattle.vlog_elab.specs.declared.said.Said.{Said}
 use Rattle.flatten_rules.specs.Check.{each_after}
 use Rattle.vlog_elab.specs.Named.{Named, named, numbered}
@@ -83,11 +83,11 @@ abbrev pub ports : TModule → Named Port
 ports m = map (port_of (said (places m)).directions) (header_names m.header)
 
 -- what a module of the text is
-abbrev pub face_with : Bool → ℕ → TModule → Named Port → List ℕ × Face
+abbrev pub face_with : Bool → ℕ → TModule → Named Port → List ℕ × Interface
 face_with leaf id m ps = (m.name.name, record { id = record { 0 = id }; leaf = leaf; ports = ps })
 
-abbrev pub face : Bool → ℕ → TModule → List ℕ × Face
-face all_leaf id m = face_with (is_leaf all_leaf m) id m (ports m)
+abbrev pub interface : Bool → ℕ → TModule → List ℕ × Interface
+interface all_leaf id m = face_with (is_leaf all_leaf m) id m (ports m)
 
 -- a port of the table has the name and the range of its inner net
 abbrev pub row_port_on : Dir → Option PNet → List ℕ × Port
@@ -98,7 +98,7 @@ abbrev pub row_port : PModule → PPort → List ℕ × Port
 row_port m port = row_port_on port.dir (net_of m port.net)
 
 -- what a module of the table is
-abbrev pub row_face : PModule → List ℕ × Face
+abbrev pub row_face : PModule → List ℕ × Interface
 row_face m = (m.name, record { id = m.id; leaf = m.leaf; ports = map (row_port m) m.ports })
 
 -- a module of that name is in the table, or among those before in the text
@@ -112,13 +112,13 @@ abbrev pub added : Plain → List TModule → List TModule
 added M = each_after (λ before (m : TModule). if has_module M before m.name.name then [] else m ∷ []) []
 
 -- the modules of the table, and those that a text adds to it, whose ids go on from the table's counter
-abbrev pub faces : Plain → Bool → List TModule → Named Face
-faces M all_leaf modules = map row_face M.modules ++ numbered (face all_leaf) M.next_module (added M modules)
+abbrev pub interfaces : Plain → Bool → List TModule → Named Interface
+interfaces M all_leaf modules = map row_face M.modules ++ numbered (interface all_leaf) M.next_module (added M modules)
 
 -- what is known of the modules of the table and those before in the text: what they are, and the id of the next one
 abbrev pub known : Plain → Bool → List TModule → Known
 known M all_leaf before =
-    record { faces = faces M all_leaf before; next_module = M.next_module + length (added M before) }
+    record { interfaces = interfaces M all_leaf before; next_module = M.next_module + length (added M before) }
 
 abbrev pub same_dir : Dir → Dir → Bool
 same_dir Input Input = true

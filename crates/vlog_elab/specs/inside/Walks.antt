@@ -2,17 +2,17 @@
 use Rattle.std.specs.Prelude.{◌+◌, Bool, if◌then◌else◌, [], ◌∷◌, ◌++◌}
 use Rattle.vlog_read.specs.declared.tree.At.{At}
 use Rattle.vlog_read.specs.declared.tree.TModule.{TModule}
-use Rattle.vlog_elab.specs.declared.face.Port.{Port}
-use Rattle.vlog_elab.specs.declared.face.Known.{Known}
+use Rattle.vlog_elab.specs.declared.interface.Port.{Port}
+use Rattle.vlog_elab.specs.declared.interface.Known.{Known}
 use Rattle.vlog_elab.specs.declared.said.Said.{Said}
 use Rattle.vlog_elab.specs.declared.scope.Scope.{Scope}
 use Rattle.vlog_elab.specs.Named.{Named, is_there}
 use Rattle.vlog_elab.specs.Text.{is_leaf}
-use Rattle.vlog_elab.specs.Faces.{Place, direction_at, wire_at, port_of, ports, face_with}
+use Rattle.vlog_elab.specs.Interfaces.{Place, direction_at, wire_at, port_of, ports, face_with}
 use Rattle.vlog_elab.specs.Declarations.{header_checks, place_checks, direction_check, module_checks}
 use Rattle.vlog_elab.specs.Steps.{Step, net_at, inst_at}
 use Rattle.vlog_elab.specs.Connections.{step_checks}
-use Rattle.vlog_elab.specs.Walk.{Walk}
+use Rattle.vlog_elab.specs.inside.Walk.{Walk}
 
 abbrev pub header_walk : Walk (Named (Unit {0})) At
 header_walk = record { checks = header_checks; after = λ before n. before ++ (n.name, tt) ∷ [] }
@@ -31,8 +31,8 @@ port_walk dirs = record { checks = λ before n. direction_check dirs n ∷ []; a
 -- a module is added where its name isn't there
 abbrev pub with_module : Bool → Known → TModule → Named Port → Known
 with_module leaf before m ps =
-    if is_there before.faces m.name.name then before
-    else record { faces = before.faces ++ face_with leaf before.next_module m ps ∷ []; next_module = before.next_module + 1 }
+    if is_there before.interfaces m.name.name then before
+    else record { interfaces = before.interfaces ++ face_with leaf before.next_module m ps ∷ []; next_module = before.next_module + 1 }
 
 abbrev pub after_module : Bool → Known → TModule → Known
 after_module all_leaf before m = with_module (is_leaf all_leaf m) before m (ports m)

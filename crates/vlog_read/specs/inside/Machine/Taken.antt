@@ -11,9 +11,9 @@ use Rattle.vlog_read.specs.declared.tree.Part.{Part}
 use Rattle.vlog_read.specs.declared.tree.Part.TheVariants.{Lit}
 use Rattle.vlog_read.specs.declared.fault.ParseFault.{ParseFault}
 use Rattle.vlog_read.specs.Grammar.{Reading, Never, One}
-use Rattle.vlog_read.specs.Machine.State.{SoFar, InModule}
-use Rattle.vlog_read.specs.Machine.Step.{is_cell, is_end_cell}
-use Rattle.vlog_read.specs.Machine.Reads.{is_real, Refused}
+use Rattle.vlog_read.specs.inside.Machine.State.{SoFar, InModule}
+use Rattle.vlog_read.specs.inside.Machine.Step.{is_cell, is_end_cell}
+use Rattle.vlog_read.specs.inside.Machine.Reads.{is_real, Refused}
 
 -- the first token is refused with this fault, unless memory was wanting
 abbrev pub Refuses : (TokenKind → Bool) → ℕ → List Token → ParseFault → Type 0

@@ -16,7 +16,7 @@ use Rattle.vlog_read.specs.declared.fault.ParseFault.{ParseFault}
 use Rattle.vlog_read.specs.declared.fault.ParseFault.TheVariants.{Unexpected}
 use Rattle.vlog_read.specs.Words.{module_word, endmodule_word, wire_word, input_word, output_word, inout_word, left_parenthesis, right_parenthesis, comma, dot, colon, semicolon, left_bracket, right_bracket, left_brace, right_brace}
 use Rattle.vlog_read.specs.Sentence.{fault_at}
-use Rattle.vlog_read.specs.Machine.State.{State, DeclFor, InInst, InConn, ForHeader, ForItem, with_mark, module_of, with_item, finished, decl_of, with_range, with_name, range_of, span_of, insts_of, inst_of, with_conn, with_inst, with_insts, empty_conn, expr_of, with_part, with_expr, Top, ModuleName, AfterModuleName, FirstHeader, HeaderName, AfterHeaderName, HeaderDecl, AfterPorts, AfterDir, AfterWire, RangeLeft, RangeColon, RangeRight, RangeClose, DeclName, AfterDeclName, InItems, InstName, AfterInstName, FirstConn, NextConn, PortName, AfterPortName, FirstExpr, NextExpr, AfterPartName, SelectLeft, AfterSelect, SelectRight, SelectClose, AfterExpr, AfterConn, AfterInst}
+use Rattle.vlog_read.specs.inside.Machine.State.{State, DeclFor, InInst, InConn, ForHeader, ForItem, with_mark, module_of, with_item, finished, decl_of, with_range, with_name, range_of, span_of, insts_of, inst_of, with_conn, with_inst, with_insts, empty_conn, expr_of, with_part, with_expr, Top, ModuleName, AfterModuleName, FirstHeader, HeaderName, AfterHeaderName, HeaderDecl, AfterPorts, AfterDir, AfterWire, RangeLeft, RangeColon, RangeRight, RangeClose, DeclName, AfterDeclName, InItems, InstName, AfterInstName, FirstConn, NextConn, PortName, AfterPortName, FirstExpr, NextExpr, AfterPartName, SelectLeft, AfterSelect, SelectRight, SelectClose, AfterExpr, AfterConn, AfterInst}
 
 -- tests of a token
 abbrev pub is_mark : ℕ → TokenKind → Bool

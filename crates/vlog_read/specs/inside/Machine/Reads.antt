@@ -6,8 +6,8 @@ use Rattle.vlog_read.specs.declared.tree.Tree.{Tree}
 use Rattle.vlog_read.specs.declared.fault.ParseFault.{ParseFault}
 use Rattle.vlog_read.specs.declared.fault.ParseFault.TheVariants.{Unexpected, Unsupported, NoMemory}
 use Rattle.vlog_read.specs.Sentence.{fault_at}
-use Rattle.vlog_read.specs.Machine.State.{State}
-use Rattle.vlog_read.specs.Machine.Step.{read, start}
+use Rattle.vlog_read.specs.inside.Machine.State.{State}
+use Rattle.vlog_read.specs.inside.Machine.Step.{read, start}
 
 -- a fault of the tokens
 abbrev pub is_real : ParseFault → Bool

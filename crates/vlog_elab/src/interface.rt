@@ -10,7 +10,7 @@ pub struct Port {
 
 /// What a module is to those that have instances of it: its ports by their names, in order.
 #[derive(Drop)]
-pub struct Face<'a> {
+pub struct Interface<'a> {
     pub id: ModId,
     pub leaf: bool,
     pub ports: Names<'a, Port>,
@@ -19,7 +19,7 @@ pub struct Face<'a> {
 /// What is known of the modules so far, by their names.
 #[derive(Drop)]
 pub struct Known<'a> {
-    pub faces: Names<'a, Face<'a>>,
+    pub interfaces: Names<'a, Interface<'a>>,
     /// The id that the next module gets.
     pub next_module: u32,
 }

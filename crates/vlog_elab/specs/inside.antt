@@ -1,0 +1,5 @@
+pub mod Agree
+pub mod Placed
+pub mod Pins
+pub mod Walk
+pub mod Walks
