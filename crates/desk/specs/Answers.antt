@@ -36,7 +36,8 @@ begun budget now c d = record d {
 abbrev pub AnswersFirst : Applied → ℕ → DeskView → Result (Unit {0}) FirstFault → DeskView → Type 0
 AnswersFirst effect budget old (Ok done) new =
     (now : State) × (c : Change) × (effect ≡ Done now c) × (new ≡ begun budget now c old)
-AnswersFirst effect budget old (Err (first.Rule refusal)) new = (effect ≡ Refused refusal) × (new ≡ old)
+AnswersFirst effect budget old (Err (first.Rule refusal)) new =
+    (effect ≡ Refused refusal) × (new ≡ old)
 AnswersFirst effect budget old (Err first.NoMemory) new = new ≡ old
 
 -- a desk after one change more

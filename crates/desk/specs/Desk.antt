@@ -39,7 +39,12 @@ room_of d = d.budget + d.asked
 
 -- a table that is opened at a top: nothing is placed, set or remembered
 abbrev pub bare : Plain → ModId → State
-bare M top = record { plain = M; top = top; places = empty; settings = record { fanout = None; grid = None } }
+bare M top = record {
+  plain = M;
+  top = top;
+  places = empty;
+  settings = record { fanout = None; grid = None };
+}
 
 abbrev pub opened : Plain → ModId → DeskView
 opened M top = record {

@@ -43,7 +43,8 @@ impl Desk {
     /// at. After a refusal all is as before.
     pub fn apply(&mut self, edit: Edit) -> Result<(), Denied>
         requires open { IsSome self.old.base }
-        ensures { AnswersApply (apply self.old.state self.old.speaker edit) self.old result self.new }
+        ensures { let effect = apply self.old.state self.old.speaker edit in
+            AnswersApply effect self.old result self.new }
     {
         if self.is_full() {
             judge(self.state.plain.modules.alloc(), &self.state, &edit)?;

@@ -48,7 +48,8 @@ impl Model for Desk {
 
     ghost invariant = { λ d. record {
       good : AreGood d.state d.past.items d.future.items d.base;
-      room : HasRoom (vec_len d.past) (vec_len d.future) (more d.base) (vec_capacity d.past) (vec_capacity d.future);
+      room : HasRoom (vec_len d.past) (vec_len d.future) (more d.base)
+          (vec_capacity d.past) (vec_capacity d.future);
       within : IsWithin (vec_len d.journal) d.asked d.budget;
     } };
 }
@@ -59,7 +60,8 @@ impl Desk {
     pub fn open(plain: Plain, top: &Name) -> Result<Desk, OpenFault>
         requires { IsSound plain }
         ensures looks { FaultLooks (open_fault plain (module_named plain top.now)) result }
-        ensures ok { IfOk result (λ desk. option_map (opened plain) (top_named plain top.now) ≡ Some desk) }
+        ensures ok { IfOk result (λ desk.
+            option_map (opened plain) (top_named plain top.now) ≡ Some desk) }
     {
         let alloc = plain.modules.alloc();
         let id = fit(alloc, &plain, top)?;

@@ -22,19 +22,19 @@ module _ (room : ℕ) (ws : List Wants) (marks : List Bool) where
       ∙ tell-more entries more (k + 1) next
       ∙ ap (λ n. tell room ws marks more n (tell room ws marks entries (k + 1) next)) same
 
-  tell-none : (more k : ℕ) (S : State) (J : List Change) → length J ≤ k → tell room ws marks more k (Going S J) ≡ Going S J
+  pub tell-none : (more k : ℕ) (S : State) (J : List Change) → length J ≤ k → tell room ws marks more k (Going S J) ≡ Going S J
   tell-none zero k S J past = refl
   tell-none (suc more) k S J past =
       ap (λ c. tell room ws marks more (k + 1) (tell_entry room ws marks c (Going S J))) (slice_get_past J k past)
       ∙ tell-none more (k + 1) S J (omega (arith, past))
 
-  tell-stopped : (more k : ℕ) (S : State) (J : List Change) → tell room ws marks more k (Spent S J) ≡ Spent S J
-  tell-stopped zero k S J = refl
-  tell-stopped (suc more) k S J = tell-stopped more (k + 1) S J
+  pub tell-spent : (more k : ℕ) (S : State) (J : List Change) → tell room ws marks more k (Spent S J) ≡ Spent S J
+  tell-spent zero k S J = refl
+  tell-spent (suc more) k S J = tell-spent more (k + 1) S J
 
   tell-past : (base : State) (more k : ℕ) (at : Course) → IsLed room base at → room ≤ k → tell room ws marks more k at ≡ at
   tell-past base more k (Going S J) led past = tell-none more k S J (omega (arith, led.1, past))
-  tell-past base more k (Spent S J) led past = tell-stopped more k S J
+  tell-past base more k (Spent S J) led past = tell-spent more k S J
 
 pub each-entry-told : EachEntryTold
 each-entry-told ws marks budget more S now J leads =

@@ -1,0 +1,5 @@
+pub mod Growing
+pub mod Told
+pub mod ToldAll
+pub mod Commands
+pub mod Marks

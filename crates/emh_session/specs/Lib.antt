@@ -1,0 +1,3 @@
+pub mod Observing
+pub mod Answers
+pub mod inside
