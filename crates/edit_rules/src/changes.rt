@@ -187,7 +187,8 @@ impl Rewrite<PModule> for NoPort {
 
 /// The ports of a module but one.
 fn ports_without(holder: &PModule, port: NetId) -> Result<List<PPort>, NoMemory>
-    ensures { IfOk result (λ made. made ≡ filter (λ other. not (other.net.0 == port.0)) holder.now.ports) }
+    ensures { IfOk result (λ made. made ≡ filter
+        (λ other. not (other.net.0 == port.0)) holder.now.ports) }
 {
     let mut made = List::new(holder.ports.alloc());
     for other in holder.ports.as_slice() {
@@ -205,7 +206,9 @@ pub struct NoInst {
 }
 
 impl Rewrite<PModule> for NoInst {
-    ghost becomes = { λ gone holder. record holder { insts = filter (λ other. not (other.id.0 == gone.inst.0)) holder.insts } };
+    ghost becomes = { λ gone holder. record holder {
+      insts = filter (λ other. not (other.id.0 == gone.inst.0)) holder.insts;
+    } };
 
     fn rewrite(&self, holder: &PModule) -> Result<PModule, NoMemory> {
         let mut made = holder.copy()?;

@@ -25,8 +25,8 @@ pub enum Spot {
     Leaf(Option<Placement>),
 }
 
-/// A design as the rules of edits look at it. Each reader is a plain reading of one state, and takes no memory. Of a net,
-/// a port or an instance that isn't there the answer is `None`, or `false`. A port is named by its inner net.
+/// A design as the rules of edits look at it. Each reader is a plain reading of one state, and takes no memory. Of a
+/// net, a port or an instance that isn't there the answer is `None`, or `false`. A port is named by its inner net.
 pub trait Facts {
     ghost use Rattle.emh_base.specs.declared.state.State.{State};
 
@@ -122,8 +122,10 @@ pub trait Facts {
         requires sound { IsSound (state self.now).plain }
         requires live { IsTrue (is_module (state self.now).plain id) }
         requires there { IsTrue (is_inst (state self.now).plain id inst) }
-        requires port { IsTrue (is_port (state self.now).plain (master_id (inst_in (state self.now).plain id inst)) port) }
-        requires within { offset < width_of (net_in (state self.now).plain (master_id (inst_in (state self.now).plain id inst)) port) }
+        requires port { IsTrue (is_port (state self.now).plain
+            (master_id (inst_in (state self.now).plain id inst)) port) }
+        requires within { offset < width_of (net_in (state self.now).plain
+            (master_id (inst_in (state self.now).plain id inst)) port) }
         ensures { result ≡ src_at (state self.now) id inst port offset };
 
     /// Whether a source in a module names the net.

@@ -63,7 +63,8 @@ fn is_inner(plain: &Plain, id: ModId) -> bool
 fn are_placed(plain: &Plain, top: ModId, places: &Places) -> Result<bool, NoMemory>
     requires { IsSound plain.now }
     ensures { IfOk result (λ placed. IsTrue placed
-        ↔ ((path : Seq InstId) → IsSome (get places.now path) → IsTrue (is_leaf_path plain.now top path))) }
+        ↔ ((path : Seq InstId) → IsSome (get places.now path)
+        → IsTrue (is_leaf_path plain.now top path))) }
 {
     let list = places.to_list()?;
     Ok(are_leaf_paths(plain, top, list.as_slice()))
@@ -71,7 +72,8 @@ fn are_placed(plain: &Plain, top: ModId, places: &Places) -> Result<bool, NoMemo
 
 fn are_leaf_paths(plain: &Plain, top: ModId, placed: &[(Path, Placement)]) -> bool
     requires { InOrder plain.now }
-    ensures { IsTrue result ↔ All (λ (p : Seq InstId × Placement). IsTrue (is_leaf_path plain.now top p.0)) placed.now }
+    ensures { IsTrue result ↔ All
+        (λ (p : Seq InstId × Placement). IsTrue (is_leaf_path plain.now top p.0)) placed.now }
 {
     placed
         .iter()
@@ -80,7 +82,8 @@ fn are_leaf_paths(plain: &Plain, top: ModId, placed: &[(Path, Placement)]) -> bo
 
 fn is_good_fanout(state: &State) -> bool
     requires { IsSound state.now.plain }
-    ensures { IsTrue result ↔ ((limit : Fanout) → state.now.settings.fanout ≡ Some limit → IsFanout state.now.plain limit) }
+    ensures { IsTrue result ↔ ((limit : Fanout) → state.now.settings.fanout ≡ Some limit
+        → IsFanout state.now.plain limit) }
 {
     match state.settings.fanout {
         None => true,

@@ -18,8 +18,8 @@ pub fn worked_readers()
     ensures unfolding { UnfoldingIsRead }
 {}
 
-/// The law of good states: an edit that no rule refuses leads from a good state to a good one, and so do edits in order.
-/// The contract is what this is for.
+/// The law of good states: an edit that no rule refuses leads from a good state to a good one, and so do edits in
+/// order. The contract is what this is for.
 pub fn each_edit_stays_good()
     ensures one { StaysGood }
     ensures all { StaysGoodInOrder }

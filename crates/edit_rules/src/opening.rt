@@ -51,8 +51,8 @@ impl OpenFault {
     }
 }
 
-/// The id of the module of a name in a sound table, which is a good design at it; or the first of the faults that it has,
-/// in their order. Without memory no other fault is told.
+/// The id of the module of a name in a sound table, which is a good design at it; or the first of the faults that it
+/// has, in their order. Without memory no other fault is told.
 pub fn fit(alloc: Global, plain: &Plain, top: &Name) -> Result<ModId, OpenFault>
     requires { IsSound plain.now }
     ensures looks { FaultLooks (open_fault plain.now (module_named plain.now top.now)) result }

@@ -22,7 +22,8 @@ impl Model for Pool {
 
     ghost view = { λ pool. map (λ entry. entry.0.items) pool.names.entries };
 
-    ghost invariant = { λ pool. map (λ entry. entry.0.items) pool.names.entries ≡ map (λ entry. entry.1) pool.names.entries };
+    ghost invariant = { λ pool. map (λ entry. entry.0.items) pool.names.entries
+        ≡ map (λ entry. entry.1) pool.names.entries };
 }
 
 impl Pool {

@@ -17,8 +17,8 @@ const PIECE: usize = 65_536;
 
 /// The real files as a shelf, which tells nothing of what it holds. A name is a path as it stands, from the current
 /// folder. A file that is missing, is a folder or may not be read has failed, and so has a name that isn't UTF-8.
-/// A clause sees how many fetches and how many stores failed, how many bytes were read, and the name of the last call that
-/// failed.
+/// A clause sees how many fetches and how many stores failed, how many bytes were read, and the name of the last call
+/// that failed.
 #[derive(Drop)]
 pub struct FileShelf<R: Files + Drop> {
     alloc: Global,

@@ -47,8 +47,8 @@ impl MemShelf {
     ghost use Rattle.emh_io.specs.Held.{files_of, are_distinct};
 
     /// A shelf of these files. Their names must differ: `are_distinct` tells.
-    /// The first fetch is to fail where the first item of `fetch_fails` is true, and so on, and stores by `store_fails`.
-    /// Past the end of a plan none is.
+    /// The first fetch is to fail where the first item of `fetch_fails` is true, and so on, and stores by
+    /// `store_fails`. Past the end of a plan none is.
     pub fn new(
         alloc: Global,
         files: List<Held>,

@@ -8,8 +8,8 @@ use emh_base::{List, Plain};
 use std::alloc::Global;
 use std::marker::Model;
 
-/// Where a script stands between two lines: the modules over which netlists are read, the open design, and whether a line
-/// was refused so far.
+/// Where a script stands between two lines: the modules over which netlists are read, the open design, and whether a
+/// line was refused so far.
 #[derive(Debug, Drop)]
 pub struct Progress {
     library: Plain,

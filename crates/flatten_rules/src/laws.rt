@@ -23,8 +23,8 @@ pub fn each_walk_once()
     ensures { EachWalkOnce }
 {}
 
-/// The law of block nets: the list of them has exactly the net bits that lead no further up. The contract is what this is
-/// for.
+/// The law of block nets: the list of them has exactly the net bits that lead no further up. The contract is what
+/// this is for.
 pub fn each_block_net()
     ensures { EachBlockNet }
 {}
@@ -35,8 +35,8 @@ pub fn each_path_in_order()
     ensures { EachPathInOrder }
 {}
 
-/// The law of limits: a sound table is within them exactly where none is passed, and what is counted once a module is the
-/// sum over the unfolding. The contract is what this is for.
+/// The law of limits: a sound table is within them exactly where none is passed, and what is counted once a module is
+/// the sum over the unfolding. The contract is what this is for.
 pub fn each_limit_is_tested()
     ensures tests { IsWithinByTests }
     ensures counts { CountsOccurrences }

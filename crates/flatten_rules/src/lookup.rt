@@ -50,7 +50,8 @@ pub fn port_of(holder: &PModule, net: NetId) -> Option<&PPort>
 pub fn place_of_module(plain: &Plain, id: ModId) -> Option<usize>
     requires { AllPairs (λ (a b : PModule). a.id.0 < b.id.0) plain.now.modules }
     ensures place { result ≡ place_of plain.now id }
-    ensures found { IfSome result (λ place. IsSomeAnd (slice_get plain.now.modules place) (λ m. module_of plain.now id ≡ Some m)) }
+    ensures found { IfSome result (λ place. IsSomeAnd (slice_get plain.now.modules place)
+        (λ m. module_of plain.now id ≡ Some m)) }
     ensures none { IfNone result (module_of plain.now id ≡ None) }
 {
     place_of(plain.modules.as_slice(), id.0)

@@ -78,7 +78,8 @@ impl<'a> Tracer<'a> {
         out: &mut List<u8>,
     ) -> Result<(), NoMemory>
         requires { IsSound self.now.plain.now }
-        ensures { OnOk result (out.new ≡ out.old ++ net_bit_text (names_up self.now.plain.now self.now.top (reverse path.now))
+        ensures { OnOk result (out.new ≡ out.old
+            ++ net_bit_text (names_up self.now.plain.now self.now.top (reverse path.now))
             (net_up self.now.plain.now self.now.top (reverse path.now) net) offset) }
     {
         match self.net_at(path, net) {
@@ -100,7 +101,8 @@ impl<'a> Tracer<'a> {
         out: &mut List<u8>,
     ) -> Result<(), NoMemory>
         requires { IsSound self.now.plain.now }
-        ensures { OnOk result (out.new ≡ out.old ++ port_bit_text (names_up self.now.plain.now self.now.top (reverse path.now))
+        ensures { OnOk result (out.new ≡ out.old
+            ++ port_bit_text (names_up self.now.plain.now self.now.top (reverse path.now))
             (net_up self.now.plain.now self.now.top (reverse path.now) port) offset) }
     {
         match self.net_at(path, port) {
@@ -117,7 +119,8 @@ impl<'a> Tracer<'a> {
     /// Puts the text of what a pin leads to last.
     pub fn push_root(&self, pin: &FreshPin, out: &mut List<u8>) -> Result<(), NoMemory>
         requires { IsSound self.now.plain.now }
-        ensures { OnOk result (out.new ≡ out.old ++ root_text self.now.plain.now self.now.top pin.now.root) }
+        ensures { OnOk result (out.new ≡ out.old
+            ++ root_text self.now.plain.now self.now.top pin.now.root) }
     {
         match &pin.root {
             None => out.extend(b"=open".as_slice()),

@@ -50,7 +50,8 @@ impl<'a> Tracer<'a> {
     fn source_above(&self, up: &[InstId], last: InstId, net: NetId, offset: u16) -> Option<Src>
         requires sound { IsSound self.now.plain.now }
         requires ports { AreAllPortPlaces self.now.plain.now self.now.ports.now }
-        ensures { result ≡ source_above self.now.plain.now self.now.top (last ∷ reverse up.now) net offset }
+        ensures { result
+            ≡ source_above self.now.plain.now self.now.top (last ∷ reverse up.now) net offset }
     {
         let inst = self.inst_at(up, last)?;
         let place = place_of_module(self.plain, inst.master)?;
@@ -70,7 +71,8 @@ impl<'a> Tracer<'a> {
     ) -> Result<Root, NoMemory>
         requires sound { IsSound self.now.plain.now }
         requires ports { AreAllPortPlaces self.now.plain.now self.now.ports.now }
-        ensures { IfOk result (λ root. root ≡ root_up self.now.plain.now self.now.top (reverse path.now) net offset) }
+        ensures { IfOk result (λ root. root
+            ≡ root_up self.now.plain.now self.now.top (reverse path.now) net offset) }
     {
         match path.split_last() {
             None => own(alloc, path, net, offset),
@@ -86,7 +88,8 @@ impl<'a> Tracer<'a> {
     fn root_of_source(&self, alloc: Global, path: &[InstId], source: Src) -> Result<Root, NoMemory>
         requires sound { IsSound self.now.plain.now }
         requires ports { AreAllPortPlaces self.now.plain.now self.now.ports.now }
-        ensures { IfOk result (λ root. root ≡ root_of_source (λ n k. root_up self.now.plain.now self.now.top (reverse path.now) n k) source) }
+        ensures { IfOk result (λ root. root ≡ root_of_source
+            (λ n k. root_up self.now.plain.now self.now.top (reverse path.now) n k) source) }
     {
         match source {
             Src::Tie0 => Ok(Root::Tie0),
@@ -105,7 +108,8 @@ impl<'a> Tracer<'a> {
     ) -> Result<Option<Root>, NoMemory>
         requires sound { IsSound self.now.plain.now }
         requires ports { AreAllPortPlaces self.now.plain.now self.now.ports.now }
-        ensures { IfOk result (λ root. root ≡ pin_root self.now.plain.now self.now.top (reverse path.now) port offset) }
+        ensures { IfOk result (λ root. root
+            ≡ pin_root self.now.plain.now self.now.top (reverse path.now) port offset) }
     {
         match path.split_last() {
             None => Ok(None),

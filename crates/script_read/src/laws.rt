@@ -20,8 +20,8 @@ pub fn each_line_asks_once()
     ensures { EachLineAsksOnce }
 {}
 
-/// The first words of the lines that are read stand among those that `word_table` lists for all lines, those to come too.
-/// The contract is what this is for.
+/// The first words of the lines that are read stand among those that `word_table` lists for all lines, those to come
+/// too. The contract is what this is for.
 pub fn first_words_are_known()
     ensures { FirstWordsAreKnown }
 {}

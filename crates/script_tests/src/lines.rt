@@ -3,8 +3,8 @@ use script_read::{Line, ScriptFault, script, text_of};
 use std::alloc::Global;
 use std::test::Fail;
 
-/// A line, and the line that is written for what it asks for. No two commands have one written line (it reads as its own
-/// command alone), so each comparison is one of commands. The lines of the worked rows stand last.
+/// A line, and the line that is written for what it asks for. No two commands have one written line (it reads as its
+/// own command alone), so each comparison is one of commands. The lines of the worked rows stand last.
 const LINES: &[(&[u8], &[u8])] = &[
     (b"load n1.v top", b"load n1.v top"),
     (b"load a\\/b \\=x", b"load a\\/b \\=x"),

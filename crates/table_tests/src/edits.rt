@@ -18,8 +18,8 @@ use samples::designs;
 use std::alloc::Global;
 use std::process::Abort;
 
-/// Edits of a design, of which the last is done: the id that it gives, the connections that stood before, and the design
-/// after it.
+/// Edits of a design, of which the last is done: the id that it gives, the connections that stood before, and the
+/// design after it.
 type Done = (&'static [Ask], Ask, Option<u32>, Conns, Design);
 
 /// Edits of a design, of which the last is refused.

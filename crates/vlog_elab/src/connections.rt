@@ -31,7 +31,9 @@ pub fn check_connections(
     interfaces: &Names<'_, Interface<'_>>,
     modules: &[TModule],
 ) -> Result<(), ElabFault>
-    ensures { Checks (flat_map (λ (m : TModule). if is_leaf all_leaf m then [] else inner_checks interfaces.now m) modules.now) result }
+    ensures { Checks (flat_map
+        (λ (m : TModule). if is_leaf all_leaf m then [] else inner_checks interfaces.now m)
+        modules.now) result }
 {
     for m in modules {
         check_module(alloc, all_leaf, interfaces, m)?;
@@ -99,7 +101,8 @@ fn declare_all<'a>(
     names: &'a [At],
     range: Option<Range>,
 ) -> Result<(), ElabFault>
-    ensures { Walks step_walk scope.old (map (λ (n : At). Declares n range) names.now) result scope.new }
+    ensures { Walks step_walk scope.old (map
+        (λ (n : At). Declares n range) names.now) result scope.new }
 {
     for name in names {
         declare(scope, name, range)?;
@@ -148,7 +151,9 @@ fn walk_insts<'a>(
     scope: &mut Scope<'a>,
     insts: &'a [TInst],
 ) -> Result<(), ElabFault>
-    ensures { Walks step_walk scope.old (flat_map (inst_steps (named interfaces.now master.now.name) master.now) insts.now) result scope.new }
+    ensures { Walks step_walk scope.old
+        (flat_map (inst_steps (named interfaces.now master.now.name) master.now) insts.now)
+        result scope.new }
 {
     for inst in insts {
         walk_inst(alloc, interfaces, master, scope, inst)?;
@@ -164,7 +169,8 @@ fn walk_inst<'a>(
     scope: &mut Scope<'a>,
     inst: &'a TInst,
 ) -> Result<(), ElabFault>
-    ensures { Walks step_walk scope.old (inst_steps (named interfaces.now master.now.name) master.now inst.now) result scope.new }
+    ensures { Walks step_walk scope.old
+        (inst_steps (named interfaces.now master.now.name) master.now inst.now) result scope.new }
 {
     let Some(interface) = interfaces.get(&master.name) else {
         return Err(fault(ElabKind::UnknownModule, master));
@@ -272,7 +278,8 @@ fn place<'a>(
     scope: &mut Scope<'a>,
     name: &'a At,
 ) -> Result<(), ElabFault>
-    ensures { Walks step_walk scope.old (Places (Some interface.now) master.now name.now ∷ []) result scope.new }
+    ensures { Walks step_walk scope.old (Places (Some interface.now) master.now name.now
+        ∷ []) result scope.new }
 {
     if scope.nets.contains(&name.name) {
         return Err(fault(ElabKind::NameTaken, name));
@@ -293,7 +300,8 @@ fn connect<'a>(
 ) -> Result<usize, ElabFault>
     requires { seen.old ≡ ports_named before.now }
     ensures checks { Checks (conn_checks ports.now inst.now before.now conn.now conn.now.port) result }
-    ensures place { IfOk result (λ place. port_place ports.now before.now conn.now.port ≡ Some place) }
+    ensures place { IfOk result (λ place. port_place ports.now before.now conn.now.port
+        ≡ Some place) }
     ensures seen { OnOk result (seen.new ≡ seen.old ++ port_named conn.now.port) }
 {
     match &conn.port {

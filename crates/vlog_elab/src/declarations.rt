@@ -33,7 +33,8 @@ pub fn header_of<'a>(alloc: Global, header: &'a Header) -> Result<Names<'a, ()>,
 }
 
 fn add_decls<'a>(header: &mut Names<'a, ()>, decls: &'a [Decl]) -> Result<(), ElabFault>
-    ensures { Walks header_walk header.old (flat_map (λ (d : Decl). d.names) decls.now) result header.new }
+    ensures { Walks header_walk header.old (flat_map
+        (λ (d : Decl). d.names) decls.now) result header.new }
 {
     for decl in decls {
         add_names(header, decl.names.as_slice())?;
@@ -91,7 +92,8 @@ fn declare_header<'a>(
     said: &mut Said<'a>,
     header: &'a Header,
 ) -> Result<(), ElabFault>
-    ensures { Walks (place_walk leaf names.now) said.old (flat_map decl_places (header_decls header.now)) result said.new }
+    ensures { Walks (place_walk leaf names.now) said.old
+        (flat_map decl_places (header_decls header.now)) result said.new }
 {
     match header {
         Header::Names(_) => Ok(()),
@@ -209,7 +211,8 @@ fn declare_name<'a>(
     decl: &Decl,
     name: &'a At,
 ) -> Result<(), ElabFault>
-    ensures { Walks (place_walk leaf header.now) said.old (name_place decl.now.dir (range_of decl.now) name.now ∷ []) result said.new }
+    ensures { Walks (place_walk leaf header.now) said.old
+        (name_place decl.now.dir (range_of decl.now) name.now ∷ []) result said.new }
 {
     let range = match decl.range {
         Some(span) => Some(span.range),
@@ -229,7 +232,8 @@ fn direct<'a>(
     name: &'a At,
     port: Port,
 ) -> Result<(), ElabFault>
-    ensures { Walks (place_walk leaf header.now) said.old (Directed name.now port ∷ []) result said.new }
+    ensures { Walks (place_walk leaf header.now) said.old (Directed name.now port
+        ∷ []) result said.new }
 {
     if !header.contains(&name.name) {
         return Err(fault(ElabKind::UnknownPort, name));
@@ -253,7 +257,8 @@ fn wire<'a>(
     name: &'a At,
     range: Option<Range>,
 ) -> Result<(), ElabFault>
-    ensures { Walks (place_walk leaf header.now) said.old (Wired name.now range ∷ []) result said.new }
+    ensures { Walks (place_walk leaf header.now) said.old (Wired name.now range
+        ∷ []) result said.new }
 {
     if !said.wires.push_new(&name.name, range)? {
         return Err(fault(ElabKind::NameTaken, name));

@@ -67,7 +67,8 @@ fn checked<'a>(
 ) -> Result<Known<'a>, ElabFault>
     requires { IsSound table.now }
     ensures { MatchResult result
-        (λ made. (first_broken (checks table.now all_leaf tree.now) ≡ None) × (made ≡ known table.now all_leaf tree.now.modules))
+        (λ made. (first_broken (checks table.now all_leaf tree.now) ≡ None)
+        × (made ≡ known table.now all_leaf tree.now.modules))
         (Found (first_broken (checks table.now all_leaf tree.now))) }
 {
     let modules = tree.modules.as_slice();
@@ -87,7 +88,8 @@ fn recursive(
     requires known { (all_leaf : Bool) × (masters.now ≡ interfaces table.now all_leaf modules.now) }
     requires after { length table.now.modules ≤ place }
     requires within { place < length table.now.modules + length (added table.now modules.now) }
-    ensures { (k : ℕ) (m : TModule) → place ≡ length table.now.modules + k → slice_get (added table.now modules.now) k ≡ Some m
+    ensures { (k : ℕ) (m : TModule) → place ≡ length table.now.modules + k
+        → slice_get (added table.now modules.now) k ≡ Some m
         → Found (Some (ElabFault.Fault ElabKind.Recursive m.name.at m.name.name)) result }
 {
     let mut next = table.modules.len();

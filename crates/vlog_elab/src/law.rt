@@ -12,8 +12,8 @@ pub fn one_elaboration()
 {}
 
 /// The law of reading: over a sound library bytes give a table or have a fault, and over no library two tables, or two
-/// faults, or a table and a fault; the table is sound, where there are no more bytes than ids. The contract is what this is
-/// for.
+/// faults, or a table and a fault; the table is sound, where there are no more bytes than ids. The contract is what
+/// this is for.
 pub fn one_reading()
     ensures some { EachHasSomeReading }
     ensures one { EachHasAtMostOneReading }

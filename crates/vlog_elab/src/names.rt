@@ -164,8 +164,10 @@ fn place_few<'a, V>(
     places: &mut NamePositions<'a>,
     entries: &Vec<(&'a Name, V)>,
 ) -> Result<(), NoMemory>
-    ensures ok { OnOk result (AgreesPastFew places.old entries.now.items → Agrees (place_at places.new.by_number places.new.by_name) entries.now.items) }
-    ensures err { OnErr result (AgreesPastFew places.old entries.now.items → AgreesPastFew places.new entries.now.items) }
+    ensures ok { OnOk result (AgreesPastFew places.old entries.now.items
+        → Agrees (place_at places.new.by_number places.new.by_name) entries.now.items) }
+    ensures err { OnErr result (AgreesPastFew places.old entries.now.items
+        → AgreesPastFew places.new entries.now.items) }
 {
     if entries.len() <= FEW {
         *places = places_of(*entries.allocator(), entries.as_slice())?;

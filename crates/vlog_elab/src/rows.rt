@@ -26,7 +26,8 @@ pub fn row_of(
     own: &Interface<'_>,
     m: &TModule,
 ) -> Result<PModule, NoMemory>
-    ensures row { IfOk result (λ made. (all_leaf : Bool) (id : ℕ) → own.now ≡ (interface all_leaf id m.now).1
+    ensures row { IfOk result (λ made. (all_leaf : Bool) (id : ℕ) → own.now
+        ≡ (interface all_leaf id m.now).1
         → made ≡ row interfaces.now all_leaf id m.now) }
     ensures counters { IfOk result HasCounters }
 {
@@ -57,7 +58,8 @@ fn net_rows(alloc: Global, nets: &Names<'_, Net>) -> Result<List<PNet>, NoMemory
 
 /// Puts the net at a place last.
 fn add_net(rows: &mut List<PNet>, nets: &Names<'_, Net>, place: usize) -> Result<(), NoMemory>
-    ensures { (net : List ℕ × Net) → slice_get nets.now place ≡ Some net → OnOk result (rows.new ≡ rows.old ++ net_row place net ∷ []) }
+    ensures { (net : List ℕ × Net) → slice_get nets.now place ≡ Some net
+        → OnOk result (rows.new ≡ rows.old ++ net_row place net ∷ []) }
 {
     let (Some(name), Some(net)) = (nets.name(place), nets.at(place)) else {
         return Ok(());
@@ -90,7 +92,8 @@ fn add_port(
     ports: &Names<'_, Port>,
     place: usize,
 ) -> Result<(), NoMemory>
-    ensures { (port : List ℕ × Port) → slice_get ports.now place ≡ Some port → OnOk result (rows.new ≡ rows.old ++ port_row nets.now port ∷ []) }
+    ensures { (port : List ℕ × Port) → slice_get ports.now place ≡ Some port
+        → OnOk result (rows.new ≡ rows.old ++ port_row nets.now port ∷ []) }
 {
     let (Some(name), Some(port)) = (ports.name(place), ports.at(place)) else {
         return Ok(());
@@ -124,7 +127,8 @@ fn add_item(
     nets: &Names<'_, Net>,
     item: &Item,
 ) -> Result<(), NoMemory>
-    ensures { OnOk result (rows.new ≡ rows.old ++ numbered (inst_row interfaces.now nets.now) (length rows.old) (insts_in item.now)) }
+    ensures { OnOk result (rows.new ≡ rows.old
+        ++ numbered (inst_row interfaces.now nets.now) (length rows.old) (insts_in item.now)) }
 {
     match item {
         Item::Decl(_) => Ok(()),
@@ -148,7 +152,8 @@ fn add_insts(
     insts: &[TInst],
 ) -> Result<(), NoMemory>
     ensures { OnOk result (rows.new ≡ rows.old
-        ++ numbered (inst_row interfaces.now nets.now) (length rows.old) (map (λ (i : TInst). (master.now, i)) insts.now)) }
+        ++ numbered (inst_row interfaces.now nets.now) (length rows.old) (map
+        (λ (i : TInst). (master.now, i)) insts.now)) }
 {
     for inst in insts {
         let row = inst_row(alloc, rows.len(), interfaces, nets, master, inst)?;

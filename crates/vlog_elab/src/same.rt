@@ -24,7 +24,8 @@ pub fn same_ports(these: &Names<'_, Port>, those: &Names<'_, Port>) -> bool
 
 /// Whether the ports at a place are the same.
 fn same_port(these: &Names<'_, Port>, those: &Names<'_, Port>, place: usize) -> bool
-    ensures { (p q : List ℕ × Port) → slice_get these.now place ≡ Some p → slice_get those.now place ≡ Some q → result ≡ same_port p q }
+    ensures { (p q : List ℕ × Port) → slice_get these.now place ≡ Some p
+        → slice_get those.now place ≡ Some q → result ≡ same_port p q }
 {
     let (Some(name), Some(other_name)) = (these.name(place), those.name(place)) else {
         return false;

@@ -19,8 +19,10 @@ pub fn rows_of(
     masters: &Names<'_, Interface<'_>>,
     modules: &[TModule],
 ) -> Result<List<PModule>, NoMemory>
-    ensures rows { (all_leaf : Bool) → masters.now ≡ interfaces table.now all_leaf modules.now → IfOk result (λ rows. rows
-        ≡ table.now.modules ++ numbered (row masters.now all_leaf) table.now.next_module (added table.now modules.now)) }
+    ensures rows { (all_leaf : Bool) → masters.now ≡ interfaces table.now all_leaf modules.now
+        → IfOk result (λ rows. rows
+        ≡ table.now.modules ++ numbered (row masters.now all_leaf) table.now.next_module
+        (added table.now modules.now)) }
     ensures counters { All HasCounters table.now.modules → IfOk result (All HasCounters) }
 {
     let mut rows = table.modules.copy()?;
@@ -37,8 +39,10 @@ fn add_row(
     masters: &Names<'_, Interface<'_>>,
     m: &TModule,
 ) -> Result<(), NoMemory>
-    ensures again { place_of masters.now m.now.name.name ≢ Some (length rows.old) → OnOk result (rows.new ≡ rows.old) }
-    ensures new { (all_leaf : Bool) (id : ℕ) → place_of masters.now m.now.name.name ≡ Some (length rows.old)
+    ensures again { place_of masters.now m.now.name.name ≢ Some (length rows.old)
+        → OnOk result (rows.new ≡ rows.old) }
+    ensures new { (all_leaf : Bool) (id : ℕ) → place_of masters.now m.now.name.name
+        ≡ Some (length rows.old)
         → slice_get masters.now (length rows.old) ≡ Some (interface all_leaf id m.now)
         → OnOk result (rows.new ≡ rows.old ++ row masters.now all_leaf id m.now ∷ []) }
     ensures counters { All HasCounters rows.old → OnOk result (All HasCounters rows.new) }

@@ -1,5 +1,5 @@
-//! Tests of written netlists. They stand apart from the crates that they test, and call what these offer to all, since a
-//! crate's own tests prove the crate a second time.
+//! Tests of written netlists. They stand apart from the crates that they test, and call what these offer to all, since
+//! a crate's own tests prove the crate a second time.
 #![tactic(auto)]
 
 #[cfg(test)]

@@ -15,7 +15,8 @@ fn names_port<F: Facts>(facts: &F, id: ModId, inst: InstId, port: NetId) -> Resu
     requires sound { IsSound (F.state facts.now).plain }
     requires live { IsTrue (is_module (F.state facts.now).plain id) }
     ensures looks { Looks (names_port (F.state facts.now) id inst port) result }
-    ensures master { IfOk result (λ master. master ≡ master_id (inst_in (F.state facts.now).plain id inst)) }
+    ensures master { IfOk result (λ master. master
+        ≡ master_id (inst_in (F.state facts.now).plain id inst)) }
     ensures live { IfOk result (λ master. IsTrue (is_module (F.state facts.now).plain master)) }
     ensures there { IfOk result (λ _. IsTrue (is_inst (F.state facts.now).plain id inst)) }
     ensures port { IfOk result (λ master. IsTrue (is_port (F.state facts.now).plain master port)) }
@@ -121,8 +122,10 @@ fn is_open<F: Facts>(facts: &F, id: ModId, inst: InstId, port: NetId) -> bool
     requires sound { IsSound (F.state facts.now).plain }
     requires live { IsTrue (is_module (F.state facts.now).plain id) }
     requires there { IsTrue (is_inst (F.state facts.now).plain id inst) }
-    requires port { IsTrue (is_port (F.state facts.now).plain (master_id (inst_in (F.state facts.now).plain id inst)) port) }
-    ensures { result ≡ not (is_connected (conn_of (F.state facts.now).plain (inst_in (F.state facts.now).plain id inst) port)) }
+    requires port { IsTrue (is_port (F.state facts.now).plain
+        (master_id (inst_in (F.state facts.now).plain id inst)) port) }
+    ensures { result ≡ not (is_connected (conn_of (F.state facts.now).plain
+        (inst_in (F.state facts.now).plain id inst) port)) }
 {
     facts.is_open(id, inst, port)
 }

@@ -27,7 +27,8 @@ pub struct Above {
 }
 
 /// Looks at the limits with an instance more in a module. A leaf in a module that has an instance already makes no walk
-/// longer and adds no net bit, but an occurrence wherever the module occurs. For any other, the whole table is looked at.
+/// longer and adds no net bit, but an occurrence wherever the module occurs. For any other, the whole table is looked
+/// at.
 pub fn limits_with<F: Facts>(
     alloc: Global,
     facts: &F,
@@ -39,8 +40,10 @@ pub fn limits_with<F: Facts>(
     requires holder { IsTrue (is_module (F.state facts.now).plain id) }
     requires inner { is_leaf (module_of (F.state facts.now).plain id) ≡ false }
     requires live { IsTrue (is_module (F.state facts.now).plain master) }
-    ensures recursive { IfOk result (λ above. above.recursive ≡ leads_to (F.state facts.now).plain master id) }
-    ensures depth { IfOk result (λ above. above.too_deep ≡ is_too_deep (create_inst (F.state facts.now).plain id name.now master)) }
+    ensures recursive { IfOk result (λ above. above.recursive
+        ≡ leads_to (F.state facts.now).plain master id) }
+    ensures depth { IfOk result (λ above. above.too_deep
+        ≡ is_too_deep (create_inst (F.state facts.now).plain id name.now master)) }
     ensures occurrences { IfOk result (λ above. above.too_many_occurrences
         ≡ has_too_many_occurrences (create_inst (F.state facts.now).plain id name.now master) (F.state facts.now).top) }
     ensures bits { IfOk result (λ above. above.too_many_bits
@@ -69,7 +72,8 @@ fn adds_leaves<F: Facts>(facts: &F, id: ModId, master: ModId) -> bool
     requires sound { IsSound (F.state facts.now).plain }
     requires holder { IsTrue (is_module (F.state facts.now).plain id) }
     requires live { IsTrue (is_module (F.state facts.now).plain master) }
-    ensures { result ≡ (is_leaf (module_of (F.state facts.now).plain master) && is_some (inst_after (F.state facts.now) id None)) }
+    ensures { result ≡ (is_leaf (module_of (F.state facts.now).plain master)
+        && is_some (inst_after (F.state facts.now) id None)) }
 {
     if facts.is_leaf(master) {
         facts.inst_after(id, None).is_some()

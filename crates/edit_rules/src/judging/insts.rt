@@ -74,7 +74,8 @@ fn are_leaves<F: Facts>(facts: &F, a: ModId, b: ModId) -> bool
     requires sound { IsSound (F.state facts.now).plain }
     requires first { IsTrue (is_module (F.state facts.now).plain a) }
     requires second { IsTrue (is_module (F.state facts.now).plain b) }
-    ensures { result ≡ (is_leaf (module_of (F.state facts.now).plain a) && is_leaf (module_of (F.state facts.now).plain b)) }
+    ensures { result ≡ (is_leaf (module_of (F.state facts.now).plain a)
+        && is_leaf (module_of (F.state facts.now).plain b)) }
 {
     if facts.is_leaf(a) {
         facts.is_leaf(b)

@@ -124,8 +124,10 @@ fn makes_too_many_bits<F: Facts>(facts: &F, id: ModId, range: Option<Range>) -> 
     requires live { IsTrue (is_module (F.state facts.now).plain id) }
     requires inner { is_leaf (module_of (F.state facts.now).plain id) ≡ false }
     requires narrow { is_too_wide range ≡ false }
-    ensures net { (name : Seq ℕ) → result ≡ has_too_many_bits (create_net (F.state facts.now).plain id name range) (F.state facts.now).top }
-    ensures port { (name : Seq ℕ) (dir : Dir) → result ≡ has_too_many_bits (create_port (F.state facts.now).plain id name dir range) (F.state facts.now).top }
+    ensures net { (name : Seq ℕ) → result
+        ≡ has_too_many_bits (create_net (F.state facts.now).plain id name range) (F.state facts.now).top }
+    ensures port { (name : Seq ℕ) (dir : Dir) → result
+        ≡ has_too_many_bits (create_port (F.state facts.now).plain id name dir range) (F.state facts.now).top }
 {
     let more = times_over(width_of(range), facts.times(id));
     BIT_LIMIT < facts.totals().bits + more

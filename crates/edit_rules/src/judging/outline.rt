@@ -10,8 +10,8 @@ use crate::facts::Facts;
 use emh_base::{InstId, List, ModId, Name, NoMemory, PInst, PModule, PNet, Plain, TryCopy};
 use std::alloc::Global;
 
-/// The outline of the table that is read, with an instance of a master more in a module: its modules with their nets and
-/// the masters of their instances, under one name.
+/// The outline of the table that is read, with an instance of a master more in a module: its modules with their nets
+/// and the masters of their instances, under one name.
 pub fn grown_outline<F: Facts>(
     alloc: Global,
     facts: &F,
@@ -45,7 +45,8 @@ fn grown<F: Facts>(
 ) -> Result<PModule, NoMemory>
     requires sound { IsSound (F.state facts.now).plain }
     requires live { IsTrue (is_module (F.state facts.now).plain here) }
-    ensures { IfOk result (λ made. Some made ≡ option_map (grown name.now id master) (module_of (F.state facts.now).plain here)) }
+    ensures { IfOk result (λ made. Some made
+        ≡ option_map (grown name.now id master) (module_of (F.state facts.now).plain here)) }
 {
     let holder = bare(alloc, facts, here, name)?;
     if here.0 == id.0 {
@@ -76,7 +77,8 @@ fn with_inst_last(
 fn bare<F: Facts>(alloc: Global, facts: &F, id: ModId, name: &Name) -> Result<PModule, NoMemory>
     requires sound { IsSound (F.state facts.now).plain }
     requires live { IsTrue (is_module (F.state facts.now).plain id) }
-    ensures { IfOk result (λ made. Some made ≡ option_map (bare name.now) (module_of (F.state facts.now).plain id)) }
+    ensures { IfOk result (λ made. Some made
+        ≡ option_map (bare name.now) (module_of (F.state facts.now).plain id)) }
 {
     Ok(PModule {
         id,
@@ -100,7 +102,8 @@ fn bare_insts<F: Facts>(
 ) -> Result<List<PInst>, NoMemory>
     requires sound { IsSound (F.state facts.now).plain }
     requires live { IsTrue (is_module (F.state facts.now).plain id) }
-    ensures { IfOk result (λ made. made ≡ map (bare_inst name.now) (insts_of (module_of (F.state facts.now).plain id))) }
+    ensures { IfOk result (λ made. made
+        ≡ map (bare_inst name.now) (insts_of (module_of (F.state facts.now).plain id))) }
 {
     let mut insts = List::new(alloc);
     let mut next = facts.inst_after(id, None);

@@ -76,7 +76,8 @@ fn same_port<F: Facts>(facts: &F, a: ModId, b: ModId, place: u32) -> bool
     requires sound { IsSound (F.state facts.now).plain }
     requires first { IsTrue (is_module (F.state facts.now).plain a) }
     requires second { IsTrue (is_module (F.state facts.now).plain b) }
-    ensures { result ≡ are_alike_at (module_of (F.state facts.now).plain a) (module_of (F.state facts.now).plain b) place }
+    ensures { result ≡ are_alike_at (module_of (F.state facts.now).plain a)
+        (module_of (F.state facts.now).plain b) place }
 {
     match port_at(facts, a, place) {
         None => false,

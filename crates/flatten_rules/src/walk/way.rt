@@ -127,7 +127,8 @@ impl<'a> Way<'a> {
 
     /// The module at the end of the way.
     pub fn module(&self) -> &'a PModule
-        ensures there { module_up self.now.plain self.now.top (reverse self.now.path) ≡ Some result.now }
+        ensures there { module_up self.now.plain self.now.top (reverse self.now.path)
+            ≡ Some result.now }
         ensures sound { IsSoundModule self.now.plain result.now }
     {
         self.module_at(self.depth())
@@ -136,7 +137,8 @@ impl<'a> Way<'a> {
     /// The module that so many instances of the way lead to.
     fn module_at(&self, depth: usize) -> &'a PModule
         requires { depth ≤ length self.now.path }
-        ensures there { module_up self.now.plain self.now.top (reverse (take depth self.now.path)) ≡ Some result.now }
+        ensures there { module_up self.now.plain self.now.top (reverse (take depth self.now.path))
+            ≡ Some result.now }
         ensures sound { IsSoundModule self.now.plain result.now }
     {
         if depth == 0 {
@@ -162,7 +164,8 @@ impl<'a> Way<'a> {
     /// The source above of a net's bit in the occurrence that so many instances of the way lead to. None at the top.
     fn source_above(&self, depth: usize, net: NetId, offset: u16) -> Option<Src>
         requires { depth ≤ length self.now.path }
-        ensures source { result ≡ source_above self.now.plain self.now.top (reverse (take depth self.now.path)) net offset }
+        ensures source { result ≡ source_above self.now.plain self.now.top
+            (reverse (take depth self.now.path)) net offset }
         ensures below { IsSome result → 0 < depth }
     {
         if depth == 0 {
@@ -234,8 +237,10 @@ impl<'a> Way<'a> {
 
     /// Goes down to an instance of the module at the end of the way. After want of memory the way is as before.
     pub fn push(&mut self, inst: &'a PInst) -> Result<(), NoMemory>
-        requires { inst_up self.old.plain self.old.top inst.now.id (reverse self.old.path) ≡ Some inst.now }
-        ensures ok { OnOk result (self.new ≡ with_path self.old (self.old.path ++ inst.now.id ∷ [])) }
+        requires { inst_up self.old.plain self.old.top inst.now.id (reverse self.old.path)
+            ≡ Some inst.now }
+        ensures ok { OnOk result (self.new
+            ≡ with_path self.old (self.old.path ++ inst.now.id ∷ [])) }
         ensures err { OnErr result (self.new ≡ self.old) }
     {
         let place = self.place_of_master(inst);
@@ -276,7 +281,8 @@ impl<'a> Way<'a> {
 
     /// Puts the text of a bit of a net of the occurrence at the end of the way last.
     pub fn push_net_bit(&self, net: &PNet, offset: u16, out: &mut List<u8>) -> Result<(), NoMemory>
-        ensures ok { OnOk result (out.new ≡ out.old ++ bit_text (names_to self.now) net.now.name net.now.range offset) }
+        ensures ok { OnOk result (out.new ≡ out.old
+            ++ bit_text (names_to self.now) net.now.name net.now.range offset) }
         ensures err { OnErr result (take (length out.old) out.new ≡ out.old) }
     {
         push_bit(self.front.as_slice(), net, offset, out)
@@ -284,7 +290,8 @@ impl<'a> Way<'a> {
 
     /// Puts the text of a bit of a port of the occurrence at the end of the way last, by the port's inner net.
     pub fn push_pin(&self, net: &PNet, offset: u16, out: &mut List<u8>) -> Result<(), NoMemory>
-        ensures ok { OnOk result (out.new ≡ out.old ++ pin_text (names_to self.now) net.now.name net.now.range offset) }
+        ensures ok { OnOk result (out.new ≡ out.old
+            ++ pin_text (names_to self.now) net.now.name net.now.range offset) }
         ensures err { OnErr result (take (length out.old) out.new ≡ out.old) }
     {
         self.push_path(out)?;
@@ -336,7 +343,8 @@ impl<'a> Way<'a> {
 
     /// The place in the table of the master of an instance of the module at the end of the way.
     fn place_of_master(&self, inst: &PInst) -> usize
-        requires { inst_up self.now.plain self.now.top inst.now.id (reverse self.now.path) ≡ Some inst.now }
+        requires { inst_up self.now.plain self.now.top inst.now.id (reverse self.now.path)
+            ≡ Some inst.now }
         ensures { IsSomeAnd (slice_get self.now.plain.modules result)
             (λ m. module_of self.now.plain inst.now.master ≡ Some m) }
     {
@@ -363,7 +371,8 @@ fn push_front(front: &mut List<u8>, name: &Name) -> Result<(), NoMemory>
 
 /// Puts the text of a bit of a net last, behind the text that stands before its name.
 fn push_bit(front: &[u8], net: &PNet, offset: u16, out: &mut List<u8>) -> Result<(), NoMemory>
-    ensures ok { OnOk result (out.new ≡ out.old ++ (front.now ++ (spell net.now.name ++ index_text net.now.range offset))) }
+    ensures ok { OnOk result (out.new ≡ out.old
+        ++ (front.now ++ (spell net.now.name ++ index_text net.now.range offset))) }
     ensures err { OnErr result (take (length out.old) out.new ≡ out.old) }
 {
     out.extend(front)?;

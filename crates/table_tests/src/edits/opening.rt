@@ -49,8 +49,8 @@ fn a_table_fits_at_a_module_that_is_no_leaf(rt: HostRuntime) -> Result<(), NoMem
     Ok(())
 }
 
-/// Chains of so many modules, each with so many instances of the one before; tops, and what is told of them. A chain that
-/// is too deep is so at each top.
+/// Chains of so many modules, each with so many instances of the one before; tops, and what is told of them. A chain
+/// that is too deep is so at each top.
 const CHAINS: &[(u32, u32, &str, Result<u32, OpenFault>)] = &[
     (257, 1, "e256", Ok(257)),
     (258, 1, "e257", Err(OpenFault::TooDeep)),

@@ -78,8 +78,8 @@ const TWO_LEVEL: &[Module] = &[
     },
 ];
 
-/// Ties, open ports and pins, a bus without ports on it, and a cell whose ports stand in another order than its nets. The
-/// top comes first.
+/// Ties, open ports and pins, a bus without ports on it, and a cell whose ports stand in another order than its nets.
+/// The top comes first.
 const MIXED: &[Module] = &[
     Module {
         id: 0,
