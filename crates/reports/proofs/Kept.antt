@@ -1,7 +1,12 @@
 -- A text that only grows keeps what it began with.
-use Rattle.std.proofs.Common.{◌≡◌, ℕ, ◌≤◌, List, [], ◌∷◌, ◌++◌, take, length, Result, Ok, Err, OnErr, refl, ap, sym, ◌∙◌, arith, length-take, append_assoc, append-nil}
-use Rattle.std.specs.List.{flat_map}
-use Rattle.std.proofs.lemmas.List.{take-take, take_at, take_all, take-append-le}
+use Rattle.std.proofs.Common.{◌≡◌, ℕ, ◌+◌, ◌<◌, ◌≤◌, map, get_or, List, [], ◌∷◌, ◌++◌, take, length, Result, Ok, Err, OnErr, refl, ap, sym, ◌∙◌, arith, length-take, append_assoc, append-nil}
+use Rattle.std.specs.List.{flat_map, range_with_len}
+use Rattle.std.proofs.lemmas.List.Concat.{flat_map-append}
+use Rattle.std.proofs.lemmas.List.FromFn.{map-range_with_len_more}
+use Rattle.emh_base.specs.declared.ids.NetId.{NetId}
+use Rattle.emh_base.specs.declared.ids.InstId.{InstId}
+use Rattle.flatten_rules.specs.Domains.{NetBit}
+use Rattle.std.proofs.lemmas.List.{take-take, take_at, take_more}
 
 long : (a b : List ℕ) → take (length a) b ≡ a → length a ≤ length b
 long a b kept = let n = ap length kept in omega (arith, n, length-take (length a) b)
@@ -35,3 +40,30 @@ all_lines f out all rest text none = sym (append-nil out) ∙ ap (λ xs. out ++ 
 -- a text that is put down part by part
 pub behind : (start next end first others : List ℕ) → next ≡ start ++ first → end ≡ next ++ others → end ≡ start ++ (first ++ others)
 behind start next end first others is all = all ∙ ap (λ t. t ++ others) is ∙ append_assoc start first others
+
+abbrev pub bit_at : List InstId → NetId → ℕ → NetBit
+bit_at path net offset = record { path = path; net = net; offset = offset }
+
+-- the parts so far, and one part more
+pub parts_more : {X Y : Type 0} (f : Y → List ℕ) (g : X → List Y) (start old new : List ℕ) (xs : List X) (i : ℕ) (x : X) → old ≡ start ++ flat_map f (flat_map g (take i xs)) → i < length xs → x ≡ get_or xs i x → new ≡ old ++ flat_map f (g x) → new ≡ start ++ flat_map f (flat_map g (take (i + 1) xs))
+parts_more f g start old new xs i x before within at more =
+    let next : take (i + 1) xs ≡ take i xs ++ x ∷ [] = take_more xs i x within ∙ ap (λ y. take i xs ++ y ∷ []) (sym at) in
+    more
+    ∙ ap (λ t. t ++ flat_map f (g x)) before
+    ∙ append_assoc start (flat_map f (flat_map g (take i xs))) (flat_map f (g x))
+    ∙ ap (λ t. start ++ t) (sym (flat_map-append f (flat_map g (take i xs)) (g x)) ∙ ap (flat_map f) (sym (ap (flat_map g) next ∙ flat_map-append g (take i xs) (x ∷ []) ∙ ap (λ ys. flat_map g (take i xs) ++ ys) (append-nil (g x)))))
+
+pub items_more : {X : Type 0} (f : X → List ℕ) (start old new : List ℕ) (xs : List X) (i : ℕ) (x : X) → old ≡ start ++ flat_map f (take i xs) → i < length xs → x ≡ get_or xs i x → new ≡ old ++ f x → new ≡ start ++ flat_map f (take (i + 1) xs)
+items_more f start old new xs i x before within at more =
+    let next : take (i + 1) xs ≡ take i xs ++ x ∷ [] = take_more xs i x within ∙ ap (λ y. take i xs ++ y ∷ []) (sym at) in
+    more
+    ∙ ap (λ t. t ++ f x) before
+    ∙ append_assoc start (flat_map f (take i xs)) (f x)
+    ∙ ap (λ t. start ++ t) (sym (ap (flat_map f) next ∙ flat_map-append f (take i xs) (x ∷ []) ∙ ap (λ ys. flat_map f (take i xs) ++ ys) (append-nil (f x))))
+
+pub numbers_more : {X : Type 0} (f : X → List ℕ) (g : ℕ → X) (start old new : List ℕ) (k : ℕ) → old ≡ start ++ flat_map f (map g (range_with_len 0 k)) → new ≡ old ++ f (g k) → new ≡ start ++ flat_map f (map g (range_with_len 0 (k + 1)))
+numbers_more f g start old new k before more =
+    more
+    ∙ ap (λ t. t ++ f (g k)) before
+    ∙ append_assoc start (flat_map f (map g (range_with_len 0 k))) (f (g k))
+    ∙ ap (λ t. start ++ t) (sym (ap (flat_map f) (map-range_with_len_more g 0 k k (omega arith)) ∙ flat_map-append f (map g (range_with_len 0 k)) (g k ∷ []) ∙ ap (λ ys. flat_map f (map g (range_with_len 0 k)) ++ ys) (append-nil (f (g k)))))

@@ -3,8 +3,10 @@
 
 mod counts;
 mod laws;
+mod occurrences;
 mod pins;
 
 pub use counts::push_counts;
 pub use laws::two_level_reports;
+pub use occurrences::push_occurrences;
 pub use pins::push_pins;
