@@ -33,6 +33,14 @@ is_held files file = are_bytes (held files file.name) file.bytes
 abbrev pub are_held : Files → List Held → Bool
 are_held files after = list_all (is_held files) after
 
+-- what is said of a run once it was looked whether the files are as they were to be
+abbrev pub with_files : Verdict → Bool → ℕ → Verdict
+with_files Passed true status = Passed
+with_files Passed false status = OtherFiles status
+with_files (OtherText lines ended) held status = OtherText lines ended
+with_files (OtherStatus ended) held status = OtherStatus ended
+with_files (OtherFiles ended) held status = OtherFiles ended
+
 -- some files that the plain session leaves, with that text and that status, are as they were to be
 abbrev pub PlaysTo : Files → List (List ℕ) → List ℕ → ℕ → List Held → Type 0
 PlaysTo files words text status after =

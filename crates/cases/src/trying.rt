@@ -1,6 +1,6 @@
 ghost use Rattle.std.specs.Prelude.{◌≡◌, ◌≤◌, map, IsTrue, string_bytes};
 ghost use Rattle.emh_io.specs.Held.{files_of, are_distinct};
-ghost use Rattle.cases.specs.Compared.{is_held, are_held, IsTrueOf};
+ghost use Rattle.cases.specs.Compared.{is_held, are_held, with_files, IsTrueOf};
 
 use crate::verdict::{Verdict, compare};
 use emh_base::List;
@@ -44,11 +44,25 @@ pub fn try_case(
     let mut shelf = MemShelf::new(alloc, files, faults.fetches, faults.stores);
     let mut out = MemSink::new(alloc, faults.most, faults.puts);
     let status = run(alloc, words, &mut shelf, &mut out);
-    match compare(wanted.text, wanted.status, out.bytes(), status) {
-        Verdict::Passed if !are_held(&shelf, wanted.files.as_slice()) => {
-            Verdict::OtherFiles { status }
+    let verdict = compare(wanted.text, wanted.status, out.bytes(), status);
+    with_files(verdict, are_held(&shelf, wanted.files.as_slice()), status)
+}
+
+/// What is said of a case once its files are looked at too, whether they are as they were to be.
+fn with_files(verdict: Verdict, held: bool, status: u8) -> Verdict
+    ensures { result ≡ with_files verdict held status }
+{
+    match verdict {
+        Verdict::Passed => {
+            if held {
+                Verdict::Passed
+            } else {
+                Verdict::OtherFiles { status }
+            }
         }
-        verdict => verdict,
+        Verdict::OtherText { .. } => verdict,
+        Verdict::OtherStatus { .. } => verdict,
+        Verdict::OtherFiles { .. } => verdict,
     }
 }
 
