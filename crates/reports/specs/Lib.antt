@@ -4,3 +4,4 @@ pub mod Counts
 pub mod Occurrences
 pub mod Modules
 pub mod Worked
+pub mod inside
