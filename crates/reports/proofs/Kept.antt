@@ -1,6 +1,6 @@
 -- A text that only grows keeps what it began with.
-use Rattle.std.proofs.Common.{◌≡◌, ℕ, ◌+◌, ◌<◌, ◌≤◌, map, get_or, List, [], ◌∷◌, ◌++◌, take, length, Result, Ok, Err, OnErr, refl, ap, sym, ◌∙◌, arith, length-take, append_assoc, append-nil}
-use Rattle.std.specs.List.{flat_map, range_with_len, join_with_byte, zip}
+use Rattle.std.proofs.Common.{◌≡◌, ℕ, ◌+◌, ◌<◌, ◌≤◌, Bool, true, false, cond, map, get_or, List, [], ◌∷◌, ◌++◌, take, length, Result, Ok, Err, OnErr, refl, ap, sym, ◌∙◌, arith, length-take, append_assoc, append-nil}
+use Rattle.std.specs.List.{flat_map, filter, range_with_len, join_with_byte, zip}
 use Rattle.std.proofs.lemmas.Slice.Zip.{length-zip, get_or-zip}
 use Rattle.reports.specs.inside.Spaced.{spaced}
 use Rattle.std.proofs.lemmas.List.Concat.{flat_map-append}
@@ -83,3 +83,16 @@ pairs_more f start old new xs ys i d y before within many at more =
     let x = get_or xs i d in
     let here : (x, y) ≡ get_or (zip xs ys) i (x, y) = sym (get_or-zip xs ys i (x, y) within (omega (arith, many)) ∙ ap (λ z. (z, get_or ys i y)) (get_or_default xs i x d within) ∙ ap (λ z. (x, z)) (sym at)) in
     items_more f start old new (zip xs ys) i (x, y) before (omega (arith, length-zip xs ys, many)) here more
+
+-- the same of those that pass a test
+kept-step : {X : Type 0} (f : X → List ℕ) (passes : Bool) (x : X) (rest : List X) → cond passes (f x) [] ++ flat_map f rest ≡ flat_map f (cond passes (x ∷ rest) rest)
+kept-step f true x rest = refl
+kept-step f false x rest = refl
+
+pub more_kept : {X : Type 0} (f : X → List ℕ) (p : X → Bool) (old new all : List ℕ) (x : X) (before rest : List X) → old ++ flat_map f (filter p before) ≡ all → before ≡ x ∷ rest → new ≡ old ++ cond (p x) (f x) [] → new ++ flat_map f (filter p rest) ≡ all
+more_kept f p old new all x before rest text next line =
+    ap (λ t. t ++ flat_map f (filter p rest)) line
+    ∙ append_assoc old (cond (p x) (f x) []) (flat_map f (filter p rest))
+    ∙ ap (λ t. old ++ t) (kept-step f (p x) x (filter p rest))
+    ∙ ap (λ xs. old ++ flat_map f (filter p xs)) (sym next)
+    ∙ text
