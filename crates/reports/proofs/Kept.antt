@@ -1,12 +1,14 @@
 -- A text that only grows keeps what it began with.
-use Rattle.std.proofs.Common.{◌≡◌, ℕ, ◌+◌, ◌<◌, ◌≤◌, map, get_or, List, [], ◌∷◌, ◌++◌, take, length, Result, Ok, Err, OnErr, refl, ap, sym, ◌∙◌, arith, length-take, append_assoc, append-nil}
-use Rattle.std.specs.List.{flat_map, range_with_len}
+use Rattle.std.proofs.Common.{◌≡◌, ℕ, ◌+◌, ◌<◌, ◌≤◌, Bool, true, false, cond, map, get_or, List, [], ◌∷◌, ◌++◌, take, length, Result, Ok, Err, OnErr, refl, ap, sym, ◌∙◌, arith, length-take, append_assoc, append-nil}
+use Rattle.std.specs.List.{flat_map, filter, range_with_len, join_with_byte, zip}
+use Rattle.std.proofs.lemmas.Slice.Zip.{length-zip, get_or-zip}
+use Rattle.reports.specs.inside.Spaced.{spaced}
 use Rattle.std.proofs.lemmas.List.Concat.{flat_map-append}
 use Rattle.std.proofs.lemmas.List.FromFn.{map-range_with_len_more}
 use Rattle.emh_base.specs.declared.ids.NetId.{NetId}
 use Rattle.emh_base.specs.declared.ids.InstId.{InstId}
 use Rattle.flatten_rules.specs.Domains.{NetBit}
-use Rattle.std.proofs.lemmas.List.{take-take, take_at, take_more}
+use Rattle.std.proofs.lemmas.List.{take-take, take_at, take_more, get_or_default}
 
 long : (a b : List ℕ) → take (length a) b ≡ a → length a ≤ length b
 long a b kept = let n = ap length kept in omega (arith, n, length-take (length a) b)
@@ -67,3 +69,30 @@ numbers_more f g start old new k before more =
     ∙ ap (λ t. t ++ f (g k)) before
     ∙ append_assoc start (flat_map f (map g (range_with_len 0 k))) (f (g k))
     ∙ ap (λ t. start ++ t) (sym (ap (flat_map f) (map-range_with_len_more g 0 k k (omega arith)) ∙ flat_map-append f (map g (range_with_len 0 k)) (g k ∷ []) ∙ ap (λ ys. flat_map f (map g (range_with_len 0 k)) ++ ys) (append-nil (f (g k)))))
+
+-- words with a space between each two: the first, and each other behind a space
+pub join-spaced : (word : List ℕ) (words : List (List ℕ)) → join_with_byte 32 (word ∷ words) ≡ word ++ flat_map spaced words
+join-spaced word [] = sym (append-nil word)
+join-spaced word (next ∷ words) = ap (λ t. word ++ (32 ∷ t)) (join-spaced next words)
+
+pub five-parts : (a b c d e : List ℕ) → (((a ++ b) ++ c) ++ d) ++ e ≡ a ++ (b ++ ((c ++ d) ++ e))
+five-parts a b c d e = simp append_assoc
+
+pub pairs_more : {X Y : Type 0} (f : X × Y → List ℕ) (start old new : List ℕ) (xs : List X) (ys : List Y) (i : ℕ) (d : X) (y : Y) → old ≡ start ++ flat_map f (take i (zip xs ys)) → i < length xs → length ys ≡ length xs → y ≡ get_or ys i y → new ≡ old ++ f (get_or xs i d, y) → new ≡ start ++ flat_map f (take (i + 1) (zip xs ys))
+pairs_more f start old new xs ys i d y before within many at more =
+    let x = get_or xs i d in
+    let here : (x, y) ≡ get_or (zip xs ys) i (x, y) = sym (get_or-zip xs ys i (x, y) within (omega (arith, many)) ∙ ap (λ z. (z, get_or ys i y)) (get_or_default xs i x d within) ∙ ap (λ z. (x, z)) (sym at)) in
+    items_more f start old new (zip xs ys) i (x, y) before (omega (arith, length-zip xs ys, many)) here more
+
+-- the same of those that pass a test
+kept-step : {X : Type 0} (f : X → List ℕ) (passes : Bool) (x : X) (rest : List X) → cond passes (f x) [] ++ flat_map f rest ≡ flat_map f (cond passes (x ∷ rest) rest)
+kept-step f true x rest = refl
+kept-step f false x rest = refl
+
+pub more_kept : {X : Type 0} (f : X → List ℕ) (p : X → Bool) (old new all : List ℕ) (x : X) (before rest : List X) → old ++ flat_map f (filter p before) ≡ all → before ≡ x ∷ rest → new ≡ old ++ cond (p x) (f x) [] → new ++ flat_map f (filter p rest) ≡ all
+more_kept f p old new all x before rest text next line =
+    ap (λ t. t ++ flat_map f (filter p rest)) line
+    ∙ append_assoc old (cond (p x) (f x) []) (flat_map f (filter p rest))
+    ∙ ap (λ t. old ++ t) (kept-step f (p x) x (filter p rest))
+    ∙ ap (λ xs. old ++ flat_map f (filter p xs)) (sym next)
+    ∙ text

@@ -1,7 +1,6 @@
 use Rattle.std.specs.Prelude.{ℕ, Bool, List, [], ◌∷◌, ◌++◌, map, Option, Some, None, is_some, not, codes, if◌then◌else◌}
-use Rattle.std.specs.List.{flat_map, filter}
+use Rattle.std.specs.List.{flat_map, filter, zip}
 use Rattle.std.specs.Fmt.{decimal}
-use Rattle.emh_base.specs.declared.ids.NetId.{NetId}
 use Rattle.emh_base.specs.declared.plain.Range.{Range}
 use Rattle.emh_base.specs.declared.plain.Src.{Src}
 use Rattle.emh_base.specs.declared.plain.Src.TheVariants.{Tie0, Tie1, Bit}
@@ -14,9 +13,7 @@ use Rattle.emh_base.specs.declared.plain.PModule.{PModule}
 use Rattle.emh_base.specs.declared.plain.Plain.{Plain}
 use Rattle.emh_base.specs.Text.{spell, dir_text, index_text}
 use Rattle.flatten_rules.specs.Lookup.{module_of, net_of, port_of}
-use Rattle.flatten_rules.specs.Domains.{port_net}
 use Rattle.flatten_rules.specs.FlatLines.{module_text}
-use Rattle.flatten_rules.specs.ByPath.{ports_with_conns}
 use Rattle.reports.specs.Line.{line}
 
 -- the name of a net, and a bit of it
@@ -65,20 +62,28 @@ source_words m Open = codes "=open" ∷ []
 source_words m (Bits bits) = map (source_word m) bits
 
 -- `conn PORT` and the sources, for a port of an instance's master
-abbrev pub conn_line : Plain → PModule → PInst → PPort × Conn → List ℕ
-conn_line M m inst conn =
-    line (codes "conn" ∷ net_word (port_net (module_of M inst.master) conn.0.net) ∷ source_words m conn.1)
+abbrev pub conn_line : PModule → PModule → PPort × Conn → List ℕ
+conn_line m master conn =
+    line (codes "conn" ∷ net_word (net_of master conn.0.net) ∷ source_words m conn.1)
+
+abbrev pub conn_lines : PModule → Option PModule → List Conn → List ℕ
+conn_lines m None conns = []
+conn_lines m (Some master) conns = flat_map (conn_line m master) (zip master.ports conns)
 
 -- `inst NAME MASTER` and its connections
 abbrev pub inst_lines : Plain → PModule → PInst → List ℕ
 inst_lines M m inst =
     line (codes "inst" ∷ spell inst.name ∷ module_text (module_of M inst.master) ∷ [])
-    ++ flat_map (conn_line M m inst) (ports_with_conns M inst)
+    ++ conn_lines m (module_of M inst.master) inst.conns
 
--- `module NAME` and its kind, then its ports, its other nets and its instances
+-- `module NAME` and its kind
+abbrev pub module_line : PModule → List ℕ
+module_line m = line (codes "module" ∷ spell m.name ∷ kind_word m ∷ [])
+
+-- a module, then its ports, its other nets and its instances
 abbrev pub module_lines : Plain → PModule → List ℕ
 module_lines M m =
-    line (codes "module" ∷ spell m.name ∷ kind_word m ∷ [])
+    module_line m
     ++ (flat_map (port_line m) m.ports
     ++ (flat_map wire_line (filter (is_wire m) m.nets)
     ++ flat_map (inst_lines M m) m.insts))

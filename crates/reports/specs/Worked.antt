@@ -20,3 +20,12 @@ pub record TwoLevelReports : Type 0 where
       ++ (count_line (codes "nets") 5
       ++ (count_line (codes "pins") 8
       ++ count_line (codes "placed") (len P))))))
+  pub occurrences : occurrences_text two_level (record { 0 = 3 })
+      ≡ codes "occ / top\nbit i i\nbit o o\nbit w w\nocc p pair\nbit p/a i\nbit p/y w\nbit p/m p/m\n"
+      ++ (codes "occ p/u1 INV\nocc p/u2 INV\nocc q pair\nbit q/a w\nbit q/y o\nbit q/m q/m\n"
+      ++ codes "occ q/u1 INV\nocc q/u2 INV\n")
+  pub modules : modules_text two_level
+      ≡ codes "module INV cell\nport A input\nport Y output\nmodule BUF cell\nport A input\nport Y output\n"
+      ++ (codes "module pair open\nport a input\nport y output\nwire m\ninst u1 INV\nconn A a\nconn Y m\n"
+      ++ (codes "inst u2 INV\nconn A m\nconn Y y\nmodule top open\nport i input\nport o output\nwire w\n"
+      ++ codes "inst p pair\nconn a i\nconn y w\ninst q pair\nconn a w\nconn y o\n"))

@@ -7,4 +7,4 @@ use Rattle.reports.proofs.laws.two_level_reports.Goals as goal
 
 pub returns : goal.returns
 unfolding two_level unfolded module_up root_up names_up
-returns c = record { pins = refl; counts = λ P. refl }
+returns c = record { pins = refl; counts = λ P. refl; occurrences = refl; modules = refl }
