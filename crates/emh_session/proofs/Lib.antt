@@ -3,3 +3,4 @@ pub mod Told
 pub mod ToldAll
 pub mod Commands
 pub mod Marks
+pub mod Giving

@@ -9,5 +9,5 @@ mod session;
 mod telling;
 
 pub use answers::{Accepted, CommandFault, Halt, NoSuchObserver, NothingToRedo, NothingToUndo};
-pub use observer::{Observer, give};
+pub use observer::{Observer, give, give_all};
 pub use session::Session;

@@ -6,7 +6,7 @@ ghost use Rattle.emh_session.specs.Observing.{AnswersEntry, AnswersChange};
 
 use crate::answers::Halt;
 use desk::{Denied, Desk};
-use emh_base::Edit;
+use emh_base::{Edit, TryCopy};
 
 /// Who is told of each change of a command, and may answer it with edits.
 pub trait Observer: Drop {
@@ -25,6 +25,17 @@ pub trait Observer: Drop {
         requires open { IsSome desk.old.base }
         requires there { entry < length desk.old.journal }
         ensures { AnswersEntry (wants self.now) entry desk.old result desk.new };
+}
+
+/// Gives edits to a desk in order; those that a rule refuses are passed over.
+pub fn give_all(desk: &mut Desk, edits: &[Edit]) -> Result<(), Halt>
+    requires { IsSome desk.old.base }
+    ensures { AnswersChange edits.now desk.old result desk.new }
+{
+    for edit in edits {
+        give(desk, edit.copy()?)?;
+    }
+    Ok(())
 }
 
 /// Gives an edit to a desk; one that a rule refuses is passed over.

@@ -91,6 +91,7 @@ impl Session {
         ensures placed { let wanted = map (λ b. wants b) watch.now in
             StaysPlaced (react wanted self.old.enabled self.old.budget self.old.now edit)
             self.old.now self.new.now }
+        ensures marks { self.new.enabled ≡ self.old.enabled }
     {
         run_command(
             &mut self.desk,
@@ -105,6 +106,7 @@ impl Session {
     pub fn undo(&mut self) -> Result<(), NothingToUndo>
         ensures ok { OnOk result (Undoes self.old self.new) }
         ensures none { OnErr result ((self.old.past ≡ []) × (self.new ≡ self.old)) }
+        ensures marks { self.new.enabled ≡ self.old.enabled }
     {
         if self.desk.past_len() == 0 {
             return Err(NothingToUndo);
@@ -117,6 +119,7 @@ impl Session {
     pub fn redo(&mut self) -> Result<(), NothingToRedo>
         ensures ok { OnOk result (Redoes self.old self.new) }
         ensures none { OnErr result ((self.old.future ≡ []) × (self.new ≡ self.old)) }
+        ensures marks { self.new.enabled ≡ self.old.enabled }
     {
         if self.desk.future_len() == 0 {
             return Err(NothingToRedo);
@@ -132,8 +135,9 @@ impl Session {
         watch: &[Box<dyn Observer>],
     ) -> Result<(), NoSuchObserver>
         requires { length watch.now ≡ length self.old.enabled }
-        ensures { let names = map (λ b. called b) watch.now in
+        ensures answers { let names = map (λ b. called b) watch.now in
             AnswersMark name.now true names self.old result self.new }
+        ensures as_many { length self.new.enabled ≡ length self.old.enabled }
     {
         self.set_marks(name, true, watch)
     }
@@ -141,8 +145,9 @@ impl Session {
     /// No observer of a name is told any more.
     pub fn ignore(&mut self, name: &[u8], watch: &[Box<dyn Observer>]) -> Result<(), NoSuchObserver>
         requires { length watch.now ≡ length self.old.enabled }
-        ensures { let names = map (λ b. called b) watch.now in
+        ensures answers { let names = map (λ b. called b) watch.now in
             AnswersMark name.now false names self.old result self.new }
+        ensures as_many { length self.new.enabled ≡ length self.old.enabled }
     {
         self.set_marks(name, false, watch)
     }
@@ -154,8 +159,9 @@ impl Session {
         watch: &[Box<dyn Observer>],
     ) -> Result<(), NoSuchObserver>
         requires { length watch.now ≡ length self.old.enabled }
-        ensures { let names = map (λ b. called b) watch.now in
+        ensures answers { let names = map (λ b. called b) watch.now in
             AnswersMark name.now on names self.old result self.new }
+        ensures as_many { length self.new.enabled ≡ length self.old.enabled }
     {
         if mark_named(self.enabled.as_mut_slice(), name, on, watch) {
             return Ok(());

@@ -5,8 +5,8 @@ use Rattle.emh_session.proofs.Commands.{session_of}
 use Rattle.emh_session.proofs.Marks.{marked-absent, written-over}
 use Rattle.emh_session.proofs.session.Session.set_marks.Goals as goal
 
-pub returns-then-mark_named : goal.returns-then-mark_named
-returns-then-mark_named g c =
+pub returns-then-mark_named-clause-answers : goal.returns-then-mark_named-clause-answers
+returns-then-mark_named-clause-answers g c =
     let names = map (λ b. (goal.Observer-dyn g (b.vtable, b.value)).called b.value) c.args.watch.now in
     let low : c.self.inside.enabled.len ≤ length c.mark_named.new.enabled =
     omega (arith, c.self.inside.enabled.ok.0, c.mark_named.auto.enabled, c.as_mut_slice.ensures.len) in
@@ -17,8 +17,8 @@ returns-then-mark_named g c =
     rw (← c.self.view_is)
     (sym c.mark_named.ensures.found ∙ c.if-mark_named.true, ap (λ (bs : List Bool). session_of bs c.self.inside.budget c.self.inside.desk) marks)
 
-pub returns : goal.returns
-returns g c =
+pub returns-clause-answers : goal.returns-clause-answers
+returns-clause-answers g c =
     let names = map (λ b. (goal.Observer-dyn g (b.vtable, b.value)).called b.value) c.args.watch.now in
     let low : c.self.inside.enabled.len ≤ length c.mark_named.new.enabled =
     omega (arith, c.self.inside.enabled.ok.0, c.mark_named.auto.enabled, c.as_mut_slice.ensures.len) in
