@@ -6,7 +6,7 @@ use Rattle.emh_base.specs.declared.edit.By.{By}
 use Rattle.emh_base.specs.declared.edit.By.TheVariants.{User}
 use Rattle.emh_base.specs.declared.edit.Change.{Change}
 use Rattle.emh_base.specs.declared.edit.Edit.{Edit}
-use Rattle.edit_rules.specs.Check.{first_broken}
+use Rattle.flatten_rules.specs.Check.{first_broken}
 use Rattle.edit_rules.specs.Apply.{checks, after, change, applied, apply, Refused, Done}
 use Rattle.desk.specs.declared.answers.Denied.TheVariants.{BudgetSpent}
 use Rattle.desk.specs.Desk.{DeskView, closed, room_of}

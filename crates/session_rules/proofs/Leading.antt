@@ -7,7 +7,7 @@ use Rattle.emh_base.specs.declared.edit.By.{By}
 use Rattle.emh_base.specs.declared.edit.By.TheVariants.{User, Watch}
 use Rattle.emh_base.specs.declared.edit.Change.{Change}
 use Rattle.emh_base.specs.declared.edit.Edit.{Edit}
-use Rattle.edit_rules.specs.Check.{first_broken}
+use Rattle.flatten_rules.specs.Check.{first_broken}
 use Rattle.edit_rules.specs.Apply.{checks, after, change, Applied, Refused, Done, applied, apply}
 use Rattle.session_rules.specs.Take.{Wants, Course, Going, Spent, take_applied, take_one, take}
 use Rattle.session_rules.specs.React.{tell_one, tell_from, entry_at, tell_entry, tell, IsRefused, IsSpent, IsDone, outcome, react_applied}

@@ -1,5 +1,5 @@
 use Rattle.std.proofs.Common.{◌≡◌, None, false, true, ap, sym, subst, arith, ◌∙◌}
-use Rattle.edit_rules.specs.Check.{first_broken}
+use Rattle.flatten_rules.specs.Check.{first_broken}
 use Rattle.edit_rules.specs.Apply.{checks}
 use Rattle.desk.specs.Desk.{DeskView}
 use Rattle.desk.proofs.Changes.{budget-spent, apply-done}
