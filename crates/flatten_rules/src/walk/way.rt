@@ -162,7 +162,8 @@ impl<'a> Way<'a> {
     /// The source above of a net's bit in the occurrence that so many instances of the way lead to. None at the top.
     fn source_above(&self, depth: usize, net: NetId, offset: u16) -> Option<Src>
         requires { depth ≤ length self.now.path }
-        ensures source { result ≡ source_above self.now.plain self.now.top (reverse (take depth self.now.path)) net offset }
+        ensures source { result
+            ≡ source_above self.now.plain self.now.top (reverse (take depth self.now.path)) net offset }
         ensures below { IsSome result → 0 < depth }
     {
         if depth == 0 {
@@ -363,7 +364,8 @@ fn push_front(front: &mut List<u8>, name: &Name) -> Result<(), NoMemory>
 
 /// Puts the text of a bit of a net last, behind the text that stands before its name.
 fn push_bit(front: &[u8], net: &PNet, offset: u16, out: &mut List<u8>) -> Result<(), NoMemory>
-    ensures ok { OnOk result (out.new ≡ out.old ++ (front.now ++ (spell net.now.name ++ index_text net.now.range offset))) }
+    ensures ok { OnOk result (out.new ≡ out.old
+        ++ (front.now ++ (spell net.now.name ++ index_text net.now.range offset))) }
     ensures err { OnErr result (take (length out.old) out.new ≡ out.old) }
 {
     out.extend(front)?;
