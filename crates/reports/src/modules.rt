@@ -17,9 +17,9 @@ use flatten_rules::{module_of, net_of, port_places};
 use std::alloc::Global;
 
 /// Puts the report of modules last, the whole table by id: `module NAME` with `cell`, `open` or `locked`, then
-/// `port NAME DIR` for its ports, `wire NAME` for its other nets, and `inst NAME MASTER` with a line `conn PORT` for each
-/// connection and its sources. A range stands behind the name or direction. After want of memory some of it may stand
-/// there.
+/// `port NAME DIR` for its ports, `wire NAME` for its other nets, and `inst NAME MASTER`, behind each a line
+/// `conn PORT` with its sources for each connection. A range stands last where there is one. After want of memory some
+/// of it may stand there.
 pub fn push_modules(alloc: Global, plain: &Plain, out: &mut List<u8>) -> Result<(), NoMemory>
     requires { IsSound plain.now }
     ensures ok { OnOk result (out.new ≡ out.old ++ modules_text plain.now) }
