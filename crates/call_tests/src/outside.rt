@@ -220,13 +220,13 @@ fn file_shelf_fails(rt: HostRuntime) -> Result<(), Fail> {
 fn file_shelf_reads_what_it_stored(rt: HostRuntime) -> Result<(), Fail> {
     let path = "emh_io_store.tmp";
     let mut shelf = FileShelf::new(rt.alloc(), rt.clone()?);
-    let first = stored(rt.alloc(), &mut shelf, path.as_bytes(), b"a longer text");
-    let second = stored(rt.alloc(), &mut shelf, path.as_bytes(), b"module");
-    let read = fetched(rt.alloc(), &mut shelf, path.as_bytes());
+    let first = stored(rt.alloc(), &mut shelf, path.as_bytes(), b"a longer text")?;
+    let second = stored(rt.alloc(), &mut shelf, path.as_bytes(), b"module")?;
+    let read = fetched(rt.alloc(), &mut shelf, path.as_bytes())?;
     fs::remove_file(&rt, path)?;
-    assert_eq!(rt; first?.as_str(), "");
-    assert_eq!(rt; second?.as_str(), "");
-    assert_eq!(rt; read?.as_str(), "module");
+    assert_eq!(rt; first.as_str(), "");
+    assert_eq!(rt; second.as_str(), "");
+    assert_eq!(rt; read.as_str(), "module");
     let failed = stored(rt.alloc(), &mut shelf, b".", b"");
     assert_eq!(rt; failed?.as_str(), "Failed");
     Ok(())
