@@ -1,4 +1,4 @@
-ghost use Rattle.std.specs.Prelude.{◌≡◌, ◌≤◌, ◌↔◌, None, length, IsSome, IsTrue};
+ghost use Rattle.std.specs.Prelude.{◌≡◌, ◌≤◌, ◌↔◌, None, length, IsSome, IsTrue, OnOk};
 ghost use Rattle.edit_rules.specs.Apply.{apply};
 ghost use Rattle.desk.specs.Desk.{IsClosed, closed, room_of};
 ghost use Rattle.desk.specs.Answers.{AnswersFirst, AnswersApply, Keeps, Drops};
@@ -15,7 +15,9 @@ impl Desk {
     pub fn first(&mut self, edit: Edit, budget: u32) -> Result<(), FirstFault>
         requires closed { IsClosed self.old }
         requires budget { budget ≤ 100000 }
-        ensures { AnswersFirst (apply self.old.state By.User edit) budget self.old result self.new }
+        ensures answers { let effect = apply self.old.state By.User edit in
+            AnswersFirst effect budget self.old result self.new }
+        ensures open { OnOk result (IsSome self.new.base) }
     {
         self.past.reserve(self.future.len() + 1)?;
         self.future.reserve(self.past.len() + 1)?;
@@ -43,8 +45,9 @@ impl Desk {
     /// at. After a refusal all is as before.
     pub fn apply(&mut self, edit: Edit) -> Result<(), Denied>
         requires open { IsSome self.old.base }
-        ensures { let effect = apply self.old.state self.old.speaker edit in
+        ensures answers { let effect = apply self.old.state self.old.speaker edit in
             AnswersApply effect self.old result self.new }
+        ensures base { self.new.base ≡ self.old.base }
     {
         if self.is_full() {
             judge(self.state.plain.modules.alloc(), &self.state, &edit)?;

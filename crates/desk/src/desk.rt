@@ -1,4 +1,4 @@
-ghost use Rattle.std.specs.Prelude.{◌≡◌, ◌<◌, ◌≤◌, ◌+◌, Some, IfOk, length, slice_get, option_map, IsSome, IsTrue, ◌↔◌};
+ghost use Rattle.std.specs.Prelude.{[], ◌≡◌, ◌<◌, ◌≤◌, ◌+◌, Some, IfOk, length, slice_get, option_map, IsSome, IsTrue, ◌↔◌};
 ghost use Rattle.flatten_rules.specs.Sound.{IsSound};
 ghost use Rattle.flatten_rules.specs.Design.{module_named};
 ghost use Rattle.edit_rules.specs.Good.{IsGoodState};
@@ -62,6 +62,9 @@ impl Desk {
         ensures looks { FaultLooks (open_fault plain (module_named plain top.now)) result }
         ensures ok { IfOk result (λ desk.
             option_map (opened plain) (top_named plain top.now) ≡ Some desk) }
+        ensures closed { IfOk result IsClosed }
+        ensures past { IfOk result (λ desk. desk.past ≡ []) }
+        ensures future { IfOk result (λ desk. desk.future ≡ []) }
     {
         let alloc = plain.modules.alloc();
         let id = fit(alloc, &plain, top)?;

@@ -60,13 +60,14 @@ impl Session {
         requires future { desk.future ≡ [] }
         requires budget { budget ≤ 100000 }
         requires watchers { watchers ≤ 64 }
-        ensures { IfOk result (λ session. session ≡ record {
+        ensures session { IfOk result (λ session. session ≡ record {
           past = [];
           now = desk.state;
           future = [];
           enabled = replicate watchers false;
           budget = budget;
         }) }
+        ensures watchers { IfOk result (λ session. length session.enabled ≡ watchers) }
     {
         let mut enabled = Vec::new(alloc);
         enabled.resize(watchers as usize, false)?;

@@ -1,5 +1,5 @@
 //! Edits as constants.
-use super::designs::path_of;
+use crate::designs::path_of;
 use crate::modules::{Ends, name_of, range_of, sources_of};
 use emh_base::{Dir, Edit, InstId, ModId, Name, NetId, NoMemory, Placement, Src};
 use std::alloc::Global;

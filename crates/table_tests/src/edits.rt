@@ -1,11 +1,9 @@
-mod asks;
 mod done;
 mod limits;
 mod opening;
 mod order;
 mod refused;
 mod rows;
-mod same;
 mod yard;
 
 use crate::modules::{Conns, conns_of};
@@ -14,7 +12,7 @@ use designs::{Design, state_of};
 use edit_rules::{Judged, apply_plain, is_good_state, judge};
 use emh_base::{By, Change, NoMemory, Object, Refusal, Rule, State, TryCopy};
 use same::{same_conns, same_state};
-use samples::designs;
+use samples::{asks, designs, same};
 use std::alloc::Global;
 use std::process::Abort;
 

@@ -4,67 +4,16 @@ use super::asks::Ask::{
     Connect, CreateInst, CreateModule, CreateNet, CreatePort, DeleteModule, DeleteNet, DeletePort,
     Disconnect, Lock, Place, RenameInst, Resize, Uniquify,
 };
-use super::designs::{BARE, Design, state_of};
+use super::designs::{Design, state_of};
 use super::{Done, Refused, is_done, is_now, is_refused, refuses};
-use crate::modules::{Conns, EMPTY, Module, Port};
+use crate::modules::{EMPTY, Module, Port};
 use edit_rules::Judged;
 use emh_base::Rule::{
     Locked, ModuleInUse, NetInUse, NetIsPort, PortInUse, Recursive, TooManyObjects,
 };
 use emh_base::Src::{Bit, Tie1};
 use emh_base::{Dir, ModId, NetId, Object, Orient, Placement, Status};
-
-pub const IN_AND_OUT: &[Port] = &[(0, Dir::Input), (1, Dir::Output)];
-
-pub const INV: Module = Module {
-    name: "INV",
-    leaf: true,
-    nets: &[(0, "A", None), (1, "Y", None)],
-    ports: IN_AND_OUT,
-    next_net: 2,
-    ..EMPTY
-};
-
-pub const BUF: Module = Module {
-    id: 1,
-    name: "BUF",
-    ..INV
-};
-
-/// From net 0 to net 2.
-pub const FRONT: Conns = &[&[Bit(NetId(0), 0)], &[Bit(NetId(2), 0)]];
-
-/// From net 2 to net 1.
-pub const BACK: Conns = &[&[Bit(NetId(2), 0)], &[Bit(NetId(1), 0)]];
-
-pub const PAIR: Module = Module {
-    id: 2,
-    name: "pair",
-    nets: &[(0, "a", None), (1, "y", None), (2, "m", None)],
-    ports: IN_AND_OUT,
-    insts: &[(0, "u1", 0, FRONT), (1, "u2", 0, BACK)],
-    next_net: 3,
-    next_inst: 2,
-    ..EMPTY
-};
-
-pub const TOP: Module = Module {
-    id: 3,
-    name: "top",
-    nets: &[(0, "i", None), (1, "o", None), (2, "w", None)],
-    ports: IN_AND_OUT,
-    insts: &[(0, "p", 2, FRONT), (1, "q", 2, BACK)],
-    next_net: 3,
-    next_inst: 2,
-    ..EMPTY
-};
-
-pub const TWO_LEVEL: Design = Design {
-    modules: &[INV, BUF, PAIR, TOP],
-    next_module: 4,
-    top: 3,
-    ..BARE
-};
+pub use samples::two_level::{BACK, BUF, FRONT, IN_AND_OUT, INV, PAIR, TOP, TWO_LEVEL};
 
 const CORNER: Placement = Placement {
     x: -2147483648,

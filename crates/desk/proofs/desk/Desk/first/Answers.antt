@@ -37,8 +37,8 @@ invariant_of-self-2 c =
       within = record { room = omega arith; one = omega arith; few = c.requires.budget };
     }
 
-pub returns : goal.returns
-returns c =
+pub returns-clause-answers : goal.returns-clause-answers
+returns-clause-answers c =
     let Empty : DeskView → Type 0 = λ d. d.journal ≡ [] in
     let empty = subst Empty (sym c.self.view_is) c.requires.closed.journal in
     let d = c.self.inside in
