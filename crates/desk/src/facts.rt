@@ -18,6 +18,10 @@ impl Facts for Desk {
         self.state.is_locked(id)
     }
 
+    fn top(&self) -> ModId {
+        self.state.top
+    }
+
     fn is_top(&self, id: ModId) -> bool {
         self.state.is_top(id)
     }
