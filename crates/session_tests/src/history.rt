@@ -126,29 +126,35 @@ fn a_refused_command_is_not_open(rt: HostRuntime) -> Result<(), NoMemory> {
 }
 
 #[test]
-fn a_command_is_made_and_dropped(rt: HostRuntime) -> Result<(), NoMemory> {
+fn a_rule_is_told_before_the_budget(rt: HostRuntime) -> Result<(), NoMemory> {
     let alloc = rt.alloc();
     let mut desk = desk_of(&rt, alloc, &TWO_LEVEL)?;
-    assert!(rt;
-        desk.first(edit_of(alloc, CreateNet(3, "v", None))?, 1)
-            .is_ok()
-    );
+    let first = desk.first(edit_of(alloc, CreateNet(3, "v", None))?, 0);
+    assert!(rt; first.is_ok());
     desk.speak(5);
-    assert!(rt; desk.apply(edit_of(alloc, SetGrid(7))?).is_ok());
-    assert_eq!(rt; desk.journal_len(), 2);
-    let last = desk.apply(edit_of(alloc, Lock(2))?).err();
-    assert_eq!(rt; last, Some(Denied::BudgetSpent { budget: 1 }));
+    let last = desk.apply(edit_of(alloc, SetGrid(7))?).err();
+    assert_eq!(rt; last, Some(Denied::BudgetSpent { budget: 0 }));
     let bad = desk.apply(edit_of(alloc, SetGrid(0))?).err();
     let refusal = Refusal {
         rule: BadNumber,
         object: Object::Number,
     };
     assert_eq!(rt; bad, Some(Denied::Rule(refusal)));
-    assert_eq!(rt; desk.journal_len(), 2);
+    assert_eq!(rt; desk.journal_len(), 1);
+    Ok(())
+}
+
+#[test]
+fn a_command_is_made_and_dropped(rt: HostRuntime) -> Result<(), NoMemory> {
+    let alloc = rt.alloc();
+    let mut desk = desk_of(&rt, alloc, &TWO_LEVEL)?;
+    let first = desk.first(edit_of(alloc, CreateNet(3, "v", None))?, 1);
+    assert!(rt; first.is_ok());
+    assert!(rt; desk.apply(edit_of(alloc, SetGrid(7))?).is_ok());
     assert_eq!(rt; desk.settings().grid, Some(7));
     desk.drop_command();
-    assert_eq!(rt; desk.journal_len(), 0);
     assert_eq!(rt; desk.settings().grid, None);
+    assert_eq!(rt; desk.journal_len(), 0);
     assert_eq!(rt; desk.past_len(), 0);
     Ok(())
 }
