@@ -1,6 +1,7 @@
 //! Whole scripts, as far as they are too many to be written down.
 use emh_base::List;
 use emh_io::{Held, SureShelf, SureSink, are_distinct};
+use emh_session::Observer;
 use emh_shell::run;
 use samples::texts::TWO_LEVELS;
 use std::alloc::Global;
@@ -24,7 +25,8 @@ fn printed(alloc: Global, netlist: &[u8], script: &[u8]) -> Result<List<u8>, Fai
     let mut shelf = SureShelf::new(alloc, files);
     let mut out = SureSink::new(alloc, 4096);
     let word = String::from_str(alloc, "s")?;
-    let _ = run(alloc, &[word], &mut shelf, &mut out);
+    let watch: [Box<dyn Observer>; 0] = [];
+    let _ = run(alloc, &[word], &mut shelf, &mut out, &watch);
     Ok(List::from_slice(alloc, out.bytes())?)
 }
 

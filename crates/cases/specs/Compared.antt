@@ -2,6 +2,7 @@ use Rattle.std.specs.Prelude.{◌≡◌, ℕ, ◌+◌, ◌<◌, ◌==◌, Bool, 
 use Rattle.std.specs.List.{list_all}
 use Rattle.emh_io.specs.Files.{Files, held}
 use Rattle.emh_io.specs.declared.held.Held.{Held}
+use Rattle.emh_shell.specs.Answers.{nobody}
 use Rattle.emh_shell.specs.Play.{Play}
 use Rattle.cases.specs.declared.verdict.Verdict.{Verdict}
 use Rattle.cases.specs.declared.verdict.Verdict.TheVariants.{Passed, OtherText, OtherStatus, OtherFiles}
@@ -44,7 +45,7 @@ with_files (OtherFiles ended) held status = OtherFiles ended
 -- some files that the plain session leaves, with that text and that status, are as they were to be
 abbrev pub PlaysTo : Files → List (List ℕ) → List ℕ → ℕ → List Held → Type 0
 PlaysTo files words text status after =
-    (left : Files) × Play (Some files) words text (Some left) status × (are_held left after ≡ true)
+    (left : Files) × Play nobody (Some files) words text (Some left) status × (are_held left after ≡ true)
 
 -- What a verdict says of the plain session, where a script ran to its end: a case that passed is what that session prints,
 -- leaves and ends with, and one that differs isn't.

@@ -5,6 +5,7 @@ ghost use Rattle.cases.specs.Compared.{is_held, are_held, with_files, IsTrueOf};
 use crate::verdict::{Verdict, compare};
 use emh_base::List;
 use emh_io::{Held, MemShelf, MemSink};
+use emh_session::Observer;
 use emh_shell::{each_session_once, run};
 use std::alloc::Global;
 
@@ -43,7 +44,8 @@ pub fn try_case(
     each_session_once();
     let mut shelf = MemShelf::new(alloc, files, faults.fetches, faults.stores);
     let mut out = MemSink::new(alloc, faults.most, faults.puts);
-    let status = run(alloc, words, &mut shelf, &mut out);
+    let watch: [Box<dyn Observer>; 0] = [];
+    let status = run(alloc, words, &mut shelf, &mut out, &watch);
     let verdict = compare(wanted.text, wanted.status, out.bytes(), status);
     with_files(verdict, are_held(&shelf, wanted.files.as_slice()), status)
 }

@@ -1,8 +1,8 @@
 -- A file of a told shelf is one table, or has one fault; and so as a design.
-use Rattle.std.proofs.Common.{◌≡◌, ℕ, Bool, false, List, Option, Some, None, refl, sym, ap, ap₂, subst, ◌∙◌, Ok, Err}
+use Rattle.std.proofs.Common.{◌≡◌, ℕ, Bool, false, List, Option, Some, None, option_map, refl, sym, ap, subst, ◌∙◌, Ok, Err}
 use Rattle.std.specs.Prelude.{Result}
-use Rattle.emh_base.specs.declared.ids.ModId.{ModId}
 use Rattle.emh_base.specs.declared.plain.Plain.{Plain}
+use Rattle.emh_base.specs.declared.state.State.{State}
 use Rattle.emh_io.specs.Files.{Files, held}
 use Rattle.flatten_rules.specs.Design.{module_named}
 use Rattle.vlog_elab.specs.declared.reads.ReadFault.{ReadFault}
@@ -10,7 +10,7 @@ use Rattle.vlog_elab.specs.Reads.{Reads, HasReadFault}
 use Rattle.vlog_elab.proofs.OneReading.{one_reading}
 use Rattle.edit_rules.specs.declared.opening.OpenFault.{OpenFault}
 use Rattle.edit_rules.specs.Opening.{open_fault, top_named}
-use Rattle.emh_shell.specs.Opened.{Opened}
+use Rattle.desk.specs.Desk.{bare}
 use Rattle.emh_shell.specs.Fetching.{Gives, Lacks, HasTable, HasDesign}
 use Rattle.emh_shell.specs.declared.fault.FileFault.{FileFault}
 use Rattle.emh_shell.specs.declared.fault.FileFault.TheVariants.{TooLong, Reading}
@@ -45,13 +45,6 @@ module _ (files : Files) (library : Plain) (all_leaf : Bool) (file : List ℕ) w
   lacks_table (Err TooLong) lacks a = lacks_long files file lacks a
   lacks_table (Err (Reading f)) lacks a = lacks_ok files file a.0 lacks a.1
 
-pair : Plain → ModId → Opened
-pair plain top = record { plain = plain; top = top }
-
-same_design : (design other : Opened) → design.plain ≡ other.plain → design.top ≡ other.top → design ≡ other
-unfolding pair
-same_design design other table top = ap₂ pair table top
-
 module _ (files : Files) (library : Plain) (file top : List ℕ) where
   one_table : (p q : Plain) → HasTable (Some files) library false file (Ok p) → HasTable (Some files) library false file (Ok q) → p ≡ q
   one_table p q a b = let same = one_table_reply files library false file (Ok p) (Ok q) a b in cc
@@ -61,20 +54,20 @@ module _ (files : Files) (library : Plain) (file top : List ℕ) where
       let never = one_table_reply files library false file (Ok p) (Err f) a b in
       cc
 
-  opens_or_not : (design : Opened) (f : OpenFault) → HasDesign (Some files) library file top (Ok design) → HasDesign (Some files) library file top (Err (Opening f)) → ⊥
+  opens_or_not : (design : State) (f : OpenFault) → HasDesign (Some files) library file top (Ok design) → HasDesign (Some files) library file top (Err (Opening f)) → ⊥
   opens_or_not design f a b =
-      let same : design.plain ≡ b.0 = one_table design.plain b.0 a.0 b.1 in
-      let never : None ≡ Some f = sym a.1 ∙ ap (λ z. open_fault z (module_named z top)) same ∙ b.2 in
+      let same : a.0 ≡ b.0 = one_table a.0 b.0 a.1 b.1 in
+      let never : None ≡ Some f = sym a.2 ∙ ap (λ z. open_fault z (module_named z top)) same ∙ b.2 in
       cc
 
-  pub one_design_reply : (reply other : Result Opened DesignFault) → HasDesign (Some files) library file top reply → HasDesign (Some files) library file top other → reply ≡ other
+  pub one_design_reply : (reply other : Result State DesignFault) → HasDesign (Some files) library file top reply → HasDesign (Some files) library file top other → reply ≡ other
   one_design_reply (Ok d) (Ok e) a b =
-      let table : d.plain ≡ e.plain = one_table d.plain e.plain a.0 b.0 in
-      let tops : Some d.top ≡ Some e.top = sym a.2 ∙ ap (λ z. top_named z top) table ∙ b.2 in
-      ap Ok (same_design d e table (cc))
-  one_design_reply (Ok d) (Err (File f)) a b = absurd (table_or_fault d.plain f a.0 b)
+      let table : a.0 ≡ b.0 = one_table a.0 b.0 a.1 b.1 in
+      let same : Some d ≡ Some e = sym a.3 ∙ ap (λ z. option_map (bare z) (top_named z top)) table ∙ b.3 in
+      ap Ok (cc)
+  one_design_reply (Ok d) (Err (File f)) a b = absurd (table_or_fault a.0 f a.1 b)
   one_design_reply (Ok d) (Err (Opening f)) a b = absurd (opens_or_not d f a b)
-  one_design_reply (Err (File f)) (Ok e) a b = absurd (table_or_fault e.plain f b.0 a)
+  one_design_reply (Err (File f)) (Ok e) a b = absurd (table_or_fault b.0 f b.1 a)
   one_design_reply (Err (File f)) (Err (File g)) a b =
       let same = one_table_reply files library false file (Err f) (Err g) a b in
       ap (λ z. Err (File z)) (cc)
@@ -86,7 +79,7 @@ module _ (files : Files) (library : Plain) (file top : List ℕ) where
       let faults : Some f ≡ Some g = sym a.2 ∙ ap (λ z. open_fault z (module_named z top)) same ∙ b.2 in
       ap (λ z. Err (Opening z)) (cc)
 
-  pub lacks_design : (reply : Result Opened DesignFault) → Lacks (Some files) file → HasDesign (Some files) library file top reply → ⊥
-  lacks_design (Ok d) lacks a = lacks_table files library false file (Ok d.plain) lacks a.0
+  pub lacks_design : (reply : Result State DesignFault) → Lacks (Some files) file → HasDesign (Some files) library file top reply → ⊥
+  lacks_design (Ok d) lacks a = lacks_table files library false file (Ok a.0) lacks a.1
   lacks_design (Err (File f)) lacks a = lacks_table files library false file (Err f) lacks a
   lacks_design (Err (Opening f)) lacks a = lacks_table files library false file (Ok a.0) lacks a.1

@@ -2,24 +2,23 @@
 use Rattle.std.proofs.Common.{◌≡◌, ℕ, true, false, List, ◌++◌, Option, Some, None, inl, inr, refl, sym, ap, subst, ◌∙◌}
 use Rattle.std.specs.Prelude.{Result, Ok, Err, IsSome, codes}
 use Rattle.std.specs.Option.{option_map}
-use Rattle.emh_base.specs.declared.report.Kind.TheVariants.{Pins}
+use Rattle.emh_base.specs.declared.state.State.{State}
 use Rattle.emh_io.specs.Files.{Files, held, stored}
 use Rattle.flatten_rules.specs.FlatLines.{flat_lines}
+use Rattle.session_rules.specs.Session.{PlainSession}
 use Rattle.script_read.specs.declared.command.Command.{Command}
-use Rattle.script_read.specs.declared.command.Command.TheVariants.{Load, Cells, Write, Compare, Report}
+use Rattle.script_read.specs.declared.command.Command.TheVariants.{Load, Cells, Write, Compare, Generate, Churn}
+use Rattle.script_read.specs.declared.lines.Line.{Line}
 use Rattle.vlog_write.specs.Written.{written}
-use Rattle.emh_shell.specs.Opened.{Opened}
 use Rattle.emh_shell.specs.Progress.{Progress}
 use Rattle.emh_shell.specs.Printing.{ok_line}
+use Rattle.emh_shell.specs.Answers.{Watched}
 use Rattle.emh_shell.specs.Fetching.{Lacks}
 use Rattle.emh_shell.specs.Netlists.{Loads, AddsCells, Writes, Compares, ComparesWith, CompareSays, TellsWhether, load_text, after_load, cells_text, after_cells, after_compare}
-use Rattle.emh_shell.specs.Steps.{Does, Fetches}
+use Rattle.emh_shell.specs.Steps.{Does, Fetches, SessionAnswers, first_word}
 use Rattle.emh_shell.specs.declared.fault.DesignFault.{DesignFault}
 use Rattle.emh_shell.proofs.OneReply.{one_table_reply, one_design_reply, lacks_table, lacks_design}
-
--- two texts and two progresses are the same
-abbrev Same : List ℕ → List ℕ → Progress → Progress → Type 0
-Same said other t u = (said ≡ other) × (t ≡ u)
+use Rattle.emh_shell.proofs.OneAnswer.{Same, one_answered, one_session}
 
 one_load : (files : Files) (number : ℕ) (file top : List ℕ) (s : Progress) (said other : List ℕ) (t u : Progress) → Loads number file top (Some files) s said t → Loads number file top (Some files) s other u → Same said other t u
 one_load files number file top s said other t u a b =
@@ -37,69 +36,71 @@ one_told P told other (inl a) (inr b) = absurd (b.0 a.0)
 one_told P told other (inr a) (inl b) = absurd (a.0 b.0)
 one_told P told other (inr a) (inr b) = a.1 ∙ sym b.1
 
-one_says : (number : ℕ) (file top : List ℕ) (design : Opened) (reply : Result Opened DesignFault) (said other : List ℕ) → CompareSays number file top design reply said → CompareSays number file top design reply other → said ≡ other
+one_says : (number : ℕ) (file top : List ℕ) (design : State) (reply : Result State DesignFault) (said other : List ℕ) → CompareSays number file top design reply said → CompareSays number file top design reply other → said ≡ other
 one_says number file top design (Ok e) said other a b =
     a.2 ∙ ap (λ z. ok_line number ++ z) (one_told (flat_lines e.plain e.top ≡ flat_lines design.plain design.top) a.0 b.0 a.1 b.1) ∙ sym b.2
 one_says number file top design (Err fault) said other a b = a ∙ sym b
 
-one_compare : (files : Files) (number : ℕ) (first file top : List ℕ) (s : Progress) (said other : List ℕ) (t u : Progress) (design : Option Opened) → Compares number first file top (Some files) s said t design → Compares number first file top (Some files) s other u design → Same said other t u
+one_compare : (files : Files) (number : ℕ) (first file top : List ℕ) (s : Progress) (said other : List ℕ) (t u : Progress) (there : Option PlainSession) → Compares number first file top (Some files) s said t there → Compares number first file top (Some files) s other u there → Same said other t u
 one_compare files number first file top s said other t u None a b = (a.0 ∙ sym b.0, a.1 ∙ sym b.1)
-one_compare files number first file top s said other t u (Some design) a b =
+one_compare files number first file top s said other t u (Some session) a b =
     let same = one_design_reply files s.library file top a.reply b.reply a.reads b.reads in (
-      one_says number file top design a.reply said other a.prints (subst (λ z. CompareSays number file top design z other) (sym same) b.prints),
+      one_says number file top session.now a.reply said other a.prints (subst (λ z. CompareSays number file top session.now z other) (sym same) b.prints),
       a.leads ∙ ap (after_compare s) same ∙ sym b.leads,
     )
 
 abbrev pub SameAll : List ℕ → List ℕ → Option Files → Option Files → Progress → Progress → Type 0
 SameAll said other after another t u = (said ≡ other) × (after ≡ another) × (t ≡ u)
 
-one_write : (holds : Option Files) (number : ℕ) (first file : List ℕ) (s : Progress) (said other : List ℕ) (after another : Option Files) (t u : Progress) (design : Option Opened) → Writes number first file holds s said after t design → Writes number first file holds s other another u design → SameAll said other after another t u
+one_write : (holds : Option Files) (number : ℕ) (first file : List ℕ) (s : Progress) (said other : List ℕ) (after another : Option Files) (t u : Progress) (there : Option PlainSession) → Writes number first file holds s said after t there → Writes number first file holds s other another u there → SameAll said other after another t u
 one_write holds number first file s said other after another t u None a b = (a.0 ∙ sym b.0, a.1 ∙ sym b.1, a.2 ∙ sym b.2)
-one_write holds number first file s said other after another t u (Some design) a b = (a.0 ∙ sym b.0, a.1 ∙ sym b.1, a.2 ∙ sym b.2)
+one_write holds number first file s said other after another t u (Some session) a b = (a.0 ∙ sym b.0, a.1 ∙ sym b.1, a.2 ∙ sym b.2)
 
-pub one_step : (command : Command) (files : Files) (number : ℕ) (first : List ℕ) (s : Progress) (said other : List ℕ) (after another : Option Files) (t u : Progress) → Does command number first (Some files) s said after t → Does command number first (Some files) s other another u → SameAll said other after another t u
-one_step (Load file top) files number first s said other after another t u a b =
-    let both = one_load files number file top s said other t u a.0 b.0 in
-    (both.0, a.1 ∙ sym b.1, both.1)
-one_step (Cells file) files number first s said other after another t u a b =
-    let both = one_cells files number file s said other t u a.0 b.0 in
-    (both.0, a.1 ∙ sym b.1, both.1)
-one_step (Write file) files number first s said other after another t u a b =
-    one_write (Some files) number first file s said other after another t u s.design a b
-one_step (Compare file top) files number first s said other after another t u a b =
-    let both = one_compare files number first file top s said other t u s.design a.0 b.0 in
-    (both.0, a.1 ∙ sym b.1, both.1)
-one_step (Report Pins) files number first s said other after another t u a b = (a.0 ∙ sym b.0, a.1 ∙ sym b.1, a.2 ∙ sym b.2)
-one_step _ files number first s said other after another t u a b = (a.0 ∙ sym b.0, a.1 ∙ sym b.1, a.2 ∙ sym b.2)
+-- what is said of texts and progresses, and of files
+with_files : (said other : List ℕ) (after another : Option Files) (t u : Progress) → Same said other t u → after ≡ another → SameAll said other after another t u
+with_files said other after another t u both files = (both.0, files, both.1)
+
+pub one_step : (W : Watched) (command : Command) (files : Files) (line : Line) (s : Progress) (said other : List ℕ) (after another : Option Files) (t u : Progress) → Does W command line (Some files) s said after t → Does W command line (Some files) s other another u → SameAll said other after another t u
+one_step W (Load file top) files line s said other after another t u a b =
+    with_files said other after another t u (one_load files line.number file top s said other t u a.0 b.0) (a.1 ∙ sym b.1)
+one_step W (Cells file) files line s said other after another t u a b =
+    with_files said other after another t u (one_cells files line.number file s said other t u a.0 b.0) (a.1 ∙ sym b.1)
+one_step W (Write file) files line s said other after another t u a b =
+    one_write (Some files) line.number (first_word line) file s said other after another t u s.session a b
+one_step W (Compare file top) files line s said other after another t u a b =
+    with_files said other after another t u (one_compare files line.number (first_word line) file top s said other t u s.session a.0 b.0) (a.1 ∙ sym b.1)
+one_step W (Generate seed modules width) files line s said other after another t u a b = (a.0 ∙ sym b.0, a.1 ∙ sym b.1, a.2 ∙ sym b.2)
+one_step W (Churn seed turns) files line s said other after another t u a b = (a.0 ∙ sym b.0, a.1 ∙ sym b.1, a.2 ∙ sym b.2)
+one_step W command files line s said other after another t u a b =
+    with_files said other after another t u (one_answered line.number (first_word line) (SessionAnswers W command line) (one_session W command line) s said other t u a.0 b.0) (a.1 ∙ sym b.1)
 
 -- told files stay told
 abbrev pub Told : Option Files → Type 0
 Told holds = (files : Files) × (holds ≡ Some files)
 
-told_write : (files : Files) (number : ℕ) (first file : List ℕ) (s : Progress) (said : List ℕ) (after : Option Files) (t : Progress) (design : Option Opened) → Writes number first file (Some files) s said after t design → Told after
+told_write : (files : Files) (number : ℕ) (first file : List ℕ) (s : Progress) (said : List ℕ) (after : Option Files) (t : Progress) (there : Option PlainSession) → Writes number first file (Some files) s said after t there → Told after
 told_write files number first file s said after t None a = (files, a.1)
-told_write files number first file s said after t (Some design) a = (stored file (written design.plain) files, a.1)
+told_write files number first file s said after t (Some session) a = (stored file (written session.now.plain) files, a.1)
 
-pub told_step : (command : Command) (files : Files) (number : ℕ) (first : List ℕ) (s : Progress) (said : List ℕ) (after : Option Files) (t : Progress) → Does command number first (Some files) s said after t → Told after
-told_step (Load file top) files number first s said after t a = (files, a.1)
-told_step (Cells file) files number first s said after t a = (files, a.1)
-told_step (Write file) files number first s said after t a = told_write files number first file s said after t s.design a
-told_step (Compare file top) files number first s said after t a = (files, a.1)
-told_step (Report Pins) files number first s said after t a = (files, a.1)
-told_step _ files number first s said after t a = (files, a.1)
+pub told_step : (W : Watched) (command : Command) (files : Files) (line : Line) (s : Progress) (said : List ℕ) (after : Option Files) (t : Progress) → Does W command line (Some files) s said after t → Told after
+told_step W (Load file top) files line s said after t a = (files, a.1)
+told_step W (Cells file) files line s said after t a = (files, a.1)
+told_step W (Write file) files line s said after t a = told_write files line.number (first_word line) file s said after t s.session a
+told_step W (Compare file top) files line s said after t a = (files, a.1)
+told_step W (Generate seed modules width) files line s said after t a = (files, a.1)
+told_step W (Churn seed turns) files line s said after t a = (files, a.1)
+told_step W command files line s said after t a = (files, a.1)
 
 -- a line doesn't go on that fetches a file that isn't held
-stuck_compare : (files : Files) (number : ℕ) (first file top : List ℕ) (s : Progress) (said : List ℕ) (t : Progress) (design : Option Opened) → IsSome design → Lacks (Some files) file → Compares number first file top (Some files) s said t design → ⊥
+stuck_compare : (files : Files) (number : ℕ) (first file top : List ℕ) (s : Progress) (said : List ℕ) (t : Progress) (there : Option PlainSession) → IsSome there → Lacks (Some files) file → Compares number first file top (Some files) s said t there → ⊥
 stuck_compare files number first file top s said t None some lacks a = let never : false ≡ true = some in cc
-stuck_compare files number first file top s said t (Some design) some lacks a = lacks_design files s.library file top a.reply lacks a.reads
+stuck_compare files number first file top s said t (Some session) some lacks a = lacks_design files s.library file top a.reply lacks a.reads
 
-pub stuck_step : (command : Command) (files : Files) (number : ℕ) (first : List ℕ) (s : Progress) (name said : List ℕ) (after : Option Files) (t : Progress) → Fetches command s name → Lacks (Some files) name → Does command number first (Some files) s said after t → ⊥
-stuck_step (Load file top) files number first s name said after t by lacks a =
+pub stuck_step : (W : Watched) (command : Command) (files : Files) (line : Line) (s : Progress) (name said : List ℕ) (after : Option Files) (t : Progress) → Fetches command s name → Lacks (Some files) name → Does W command line (Some files) s said after t → ⊥
+stuck_step W (Load file top) files line s name said after t by lacks a =
     lacks_design files s.library file top a.0.reply (ap (held files) (sym by) ∙ lacks) a.0.reads
-stuck_step (Cells file) files number first s name said after t by lacks a =
+stuck_step W (Cells file) files line s name said after t by lacks a =
     lacks_table files s.library true file a.0.reply (ap (held files) (sym by) ∙ lacks) a.0.reads
-stuck_step (Write file) files number first s name said after t by lacks a = by
-stuck_step (Compare file top) files number first s name said after t by lacks a =
-    stuck_compare files number first file top s said t s.design by.0 (ap (held files) (sym by.1) ∙ lacks) a.0
-stuck_step (Report Pins) files number first s name said after t by lacks a = by
-stuck_step _ files number first s name said after t by lacks a = by
+stuck_step W (Compare file top) files line s name said after t by lacks a =
+    stuck_compare files line.number (first_word line) file top s said t s.session by.0 (ap (held files) (sym by.1) ∙ lacks) a.0
+stuck_step W command files line s name said after t by lacks a = by

@@ -8,8 +8,10 @@ use Rattle.emh_io.specs.declared.shelf.FetchFault.TheVariants.{Missing, TooLong}
 use Rattle.emh_shell.specs.declared.fault.Halt.{Halt}
 use Rattle.emh_shell.specs.declared.fault.Halt.TheVariants.{Fetch, Store, Put, NoMemory}
 use Rattle.emh_shell.specs.Printing.{usage_line}
+use Rattle.emh_shell.specs.Answers.{Watched}
+use Rattle.emh_shell.specs.Words.{Asked, asked}
 use Rattle.emh_shell.specs.Fetching.{Gives, Lacks}
-use Rattle.emh_shell.specs.Play.{start, Faulty}
+use Rattle.emh_shell.specs.Play.{start, FaultyAsk, Faulty}
 use Rattle.emh_io.specs.PutAll.{Front, PutsAll}
 use Rattle.emh_io.specs.declared.sink.PutFault.{PutFault}
 use Rattle.emh_io.specs.declared.sink.PutFault.TheVariants as put_fault
@@ -42,8 +44,8 @@ Lacks-missing None name before now told untold = absurd untold
 Lacks-missing (Some files) name before now told untold = missing-none (held files name) told
 
 -- memory is wanting before anything is printed
-pub Cut-nothing : (words : List (List ℕ)) (a b : Shelved) (x : Printed) → b.holds ≡ a.holds → Cut words a b x x
-Cut-nothing words a b x kept = record {
+pub Cut-nothing : (W : Watched) (words : List (List ℕ)) (a b : Shelved) (x : Printed) → b.holds ≡ a.holds → Cut W words a b x x
+Cut-nothing W words a b x kept = record {
   k = 0;
   front = [];
   rest = [];
@@ -52,19 +54,19 @@ Cut-nothing words a b x kept = record {
 }
 
 -- the script can't be fetched
-pub Whole-script : (name : List ℕ) (a b : Shelved) (x : Printed) → b.holds ≡ a.holds → Unfetched a.holds a b name → WholeAtFetch (name ∷ []) a b x x
-Whole-script name a b x kept cause = record {
+pub Whole-script : (W : Watched) (words : List (List ℕ)) (ask : Asked) (a b : Shelved) (x : Printed) → asked words ≡ Some ask → b.holds ≡ a.holds → Unfetched a.holds a b ask.script → WholeAtFetch W words a b x x
+Whole-script W words ask a b x asks kept cause = record {
   k = 0;
-  at = start a.holds;
-  name = name;
-  next = inl (refl, refl, refl);
+  at = start W ask.budget a.holds;
+  name = ask.script;
+  next = inl (record { ask = ask; asks = asks; named = refl; first = refl; at = refl });
   cause = cause;
   files = kept;
   text = sym (gains-nothing x.written);
 }
 
-Cut-fault : (words : List (List ℕ)) (a b : Shelved) (x y : Printed) (text : List ℕ) → Faulty a.holds words text → b.holds ≡ a.holds → Front text x y → Cut words a b x y
-Cut-fault words a b x y text faulty kept f = record {
+Cut-fault : (W : Watched) (words : List (List ℕ)) (a b : Shelved) (x y : Printed) (text : List ℕ) → Faulty a.holds words text → b.holds ≡ a.holds → Front text x y → Cut W words a b x y
+Cut-fault W words a b x y text faulty kept f = record {
   k = 0;
   front = f.front;
   rest = f.rest;
@@ -73,41 +75,48 @@ Cut-fault words a b x y text faulty kept f = record {
 }
 
 -- nothing is run
-pub Ends-fault : (words : List (List ℕ)) (a b : Shelved) (x y : Printed) (text : List ℕ) (result : Result ℕ Halt) → Faulty a.holds words text → b.holds ≡ a.holds → QuietShelf a b → FaultEnds text x y result → Ends words a b x y result
-Ends-fault words a b x y text (Ok status) faulty kept quiet ends = (
+pub Ends-fault : (W : Watched) (words : List (List ℕ)) (a b : Shelved) (x y : Printed) (text : List ℕ) (result : Result ℕ Halt) → Faulty a.holds words text → b.holds ≡ a.holds → QuietShelf a b → FaultEnds text x y result → Ends W words a b x y result
+Ends-fault W words a b x y text (Ok status) faulty kept quiet ends = (
   rw ends.0 (lit< tt),
   record { text = text; plays = inl (ends.0, faulty, kept); written = ends.1 },
   quiet,
   ends.2,
 )
-Ends-fault words a b x y text (Err Fetch) faulty kept quiet ends = absurd ends
-Ends-fault words a b x y text (Err Store) faulty kept quiet ends = absurd ends
-Ends-fault words a b x y text (Err Put) faulty kept quiet ends = (Cut-fault words a b x y text faulty kept ends.0, ends.1)
-Ends-fault words a b x y text (Err NoMemory) faulty kept quiet ends = Cut-fault words a b x y text faulty kept ends
+Ends-fault W words a b x y text (Err Fetch) faulty kept quiet ends = absurd ends
+Ends-fault W words a b x y text (Err Store) faulty kept quiet ends = absurd ends
+Ends-fault W words a b x y text (Err Put) faulty kept quiet ends = (Cut-fault W words a b x y text faulty kept ends.0, ends.1)
+Ends-fault W words a b x y text (Err NoMemory) faulty kept quiet ends = Cut-fault W words a b x y text faulty kept ends
 
 -- one word is a script's name, any other number of words isn't
-pub Faulty-words : {X : Type 0} (files : Option Files) (spell : X → List ℕ) (words : List X) → (length words ≡ 1 → ⊥) → Faulty files (map spell words) usage_line
-Faulty-words files spell [] other = refl
-Faulty-words files spell (name ∷ []) other = absurd (other refl)
-Faulty-words files spell (first ∷ second ∷ others) other = refl
 
-pub only-one : {X : Type 0} (spell : X → List ℕ) (xs : List X) (x : X) → length xs ≡ 1 → x ≡ get_or xs 0 x → spell x ∷ [] ≡ map spell xs
-only-one spell [] x one at = absurd (omega (arith, one))
-only-one spell (y ∷ []) x one at = ap (λ z. spell z ∷ []) at
-only-one spell (y ∷ z ∷ zs) x one at = absurd (omega (arith, one))
+pub asked-none : {X : Type 0} (spell : X → List ℕ) (words : List X) → (length words ≡ 1 → ⊥) → asked (map spell words) ≡ None
+asked-none spell [] other = refl
+asked-none spell (name ∷ []) other = absurd (other refl)
+asked-none spell (first ∷ second ∷ others) other = refl
 
-Cut-after : (words : List (List ℕ)) (a m b : Shelved) (x y : Printed) → m.holds ≡ a.holds → Cut words m b x y → Cut words a b x y
-Cut-after words a m b x y kept c = record { k = c.k; front = c.front; rest = c.rest; after = rw kept at c.after; text = c.text }
+pub asked-one : {X : Type 0} (spell : X → List ℕ) (xs : List X) (x : X) → length xs ≡ 1 → x ≡ get_or xs 0 x → asked (map spell xs) ≡ Some (record { budget = 1000; script = spell x })
+asked-one spell [] x one at = absurd (omega (arith, one))
+asked-one spell (y ∷ []) x one at = ap (λ z. Some (let ask : Asked = record { budget = 1000; script = spell z } in ask)) (sym at)
+asked-one spell (y ∷ z ∷ zs) x one at = absurd (omega (arith, one))
+
+pub Faulty-words : (files : Option Files) (words : List (List ℕ)) → asked words ≡ None → Faulty files words usage_line
+Faulty-words files words none = rw none refl
+
+pub Faulty-ask : (files : Option Files) (words : List (List ℕ)) (ask : Asked) (text : List ℕ) → asked words ≡ Some ask → FaultyAsk files (Some ask) text → Faulty files words text
+Faulty-ask files words ask text asks faulty = rw asks faulty
+
+Cut-after : (W : Watched) (words : List (List ℕ)) (a m b : Shelved) (x y : Printed) → m.holds ≡ a.holds → Cut W words m b x y → Cut W words a b x y
+Cut-after W words a m b x y kept c = record { k = c.k; front = c.front; rest = c.rest; after = rw kept at c.after; text = c.text }
 
 -- a call before a run left all that a run begins with
-pub Ends-after : (words : List (List ℕ)) (a m b : Shelved) (x y : Printed) (result : Result ℕ Halt) → m.holds ≡ a.holds → QuietShelf a m → Ends words m b x y result → Ends words a b x y result
-Ends-after words a m b x y (Ok status) kept quiet ends = (
+pub Ends-after : (W : Watched) (words : List (List ℕ)) (a m b : Shelved) (x y : Printed) (result : Result ℕ Halt) → m.holds ≡ a.holds → QuietShelf a m → Ends W words m b x y result → Ends W words a b x y result
+Ends-after W words a m b x y (Ok status) kept quiet ends = (
   ends.0,
   record { text = ends.1.text; plays = rw kept at ends.1.plays; written = ends.1.written },
   (ends.2.0 ∙ quiet.0, ends.2.1 ∙ quiet.1),
   ends.3,
 )
-Ends-after words a m b x y (Err Fetch) kept quiet ends = record {
+Ends-after W words a m b x y (Err Fetch) kept quiet ends = record {
   k = ends.k;
   at = ends.at;
   name = ends.name;
@@ -116,7 +125,7 @@ Ends-after words a m b x y (Err Fetch) kept quiet ends = record {
   files = ends.files;
   text = ends.text;
 }
-Ends-after words a m b x y (Err Store) kept quiet ends = record {
+Ends-after W words a m b x y (Err Store) kept quiet ends = record {
   k = ends.k;
   at = ends.at;
   name = ends.name;
@@ -124,8 +133,8 @@ Ends-after words a m b x y (Err Store) kept quiet ends = record {
   cause = rw quiet.1 at ends.cause;
   text = ends.text;
 }
-Ends-after words a m b x y (Err Put) kept quiet ends = (Cut-after words a m b x y kept ends.0, ends.1)
-Ends-after words a m b x y (Err NoMemory) kept quiet ends = Cut-after words a m b x y kept ends
+Ends-after W words a m b x y (Err Put) kept quiet ends = (Cut-after W words a m b x y kept ends.0, ends.1)
+Ends-after W words a m b x y (Err NoMemory) kept quiet ends = Cut-after W words a m b x y kept ends
 
 -- a text that says why nothing is run isn't written whole
 pub Fault-put : (text : List ℕ) (x y : Printed) (fault : PutFault) → PutsAll text x y (Err fault) → FaultEnds text x y (Err (halt_of_put fault))

@@ -1,6 +1,7 @@
 -- What a shelf gives for a name, and what a file of it is as a table or a design.
-use Rattle.std.specs.Prelude.{◌≡◌, Bool, true, false, List, ℕ, Option, Some, None, Result, Ok, Err}
+use Rattle.std.specs.Prelude.{◌≡◌, Bool, true, false, List, ℕ, Option, Some, None, option_map, Result, Ok, Err}
 use Rattle.emh_base.specs.declared.plain.Plain.{Plain}
+use Rattle.emh_base.specs.declared.state.State.{State}
 use Rattle.emh_io.specs.Files.{Files, held}
 use Rattle.emh_io.specs.Fetch.{fetched}
 use Rattle.emh_io.specs.declared.shelf.FetchFault.{FetchFault}
@@ -8,7 +9,7 @@ use Rattle.emh_io.specs.declared.shelf.FetchFault.TheVariants as fetch
 use Rattle.flatten_rules.specs.Design.{module_named}
 use Rattle.vlog_elab.specs.Reads.{Reads, HasReadFault}
 use Rattle.edit_rules.specs.Opening.{open_fault, top_named}
-use Rattle.emh_shell.specs.Opened.{Opened}
+use Rattle.desk.specs.Desk.{bare}
 use Rattle.emh_shell.specs.declared.fault.FileFault.{FileFault}
 use Rattle.emh_shell.specs.declared.fault.FileFault.TheVariants.{TooLong, Reading}
 use Rattle.emh_shell.specs.declared.fault.DesignFault.{DesignFault}
@@ -32,12 +33,12 @@ HasTable holds library all_leaf file (Err TooLong) = Gives holds file (Err fetch
 HasTable holds library all_leaf file (Err (Reading fault)) =
     (bytes : List ℕ) × Gives holds file (Ok bytes) × HasReadFault library all_leaf bytes fault
 
--- a file as a design with a module of a name at its top; or the first of what is wrong with it
-abbrev pub HasDesign : Option Files → Plain → List ℕ → List ℕ → Result Opened DesignFault → Type 0
+-- a file as a design with a module of a name at its top, on which nothing is placed or set; or the first of what is wrong
+abbrev pub HasDesign : Option Files → Plain → List ℕ → List ℕ → Result State DesignFault → Type 0
 HasDesign holds library file top (Ok design) =
-    HasTable holds library false file (Ok design.plain)
-    × (open_fault design.plain (module_named design.plain top) ≡ None)
-    × (top_named design.plain top ≡ Some design.top)
+    (plain : Plain) × HasTable holds library false file (Ok plain)
+    × (open_fault plain (module_named plain top) ≡ None)
+    × (option_map (bare plain) (top_named plain top) ≡ Some design)
 HasDesign holds library file top (Err (File fault)) = HasTable holds library false file (Err fault)
 HasDesign holds library file top (Err (Opening fault)) =
     (plain : Plain) × HasTable holds library false file (Ok plain)

@@ -1,9 +1,14 @@
-pub mod Opened
+pub mod Words
 pub mod Progress
 pub mod Printing
+pub mod Answers
+pub mod Objects
 pub mod Faults
 pub mod Fetching
 pub mod Netlists
+pub mod Edits
+pub mod History
+pub mod Observers
 pub mod Reports
 pub mod Steps
 pub mod Script

@@ -8,6 +8,10 @@ use Rattle.word_table.specs.Causes.{cause_name}
 abbrev pub ok_line : ℕ → List ℕ
 ok_line number = codes "ok " ++ (decimal number ++ codes "\n")
 
+-- `ok LINE K`, for an accepted edit, to which observers added so many
+abbrev pub edit_line : ℕ → ℕ → List ℕ
+edit_line number added = codes "ok " ++ (decimal number ++ (codes " " ++ (decimal added ++ codes "\n")))
+
 -- `refused LINE CODE NAME OBJECT`: a cause by its code and its name, and what it is about
 abbrev pub refused_line : ℕ → ℕ → List ℕ → List ℕ
 refused_line number code object =
@@ -21,6 +25,9 @@ word_object word = codes "word " ++ word
 
 abbrev pub module_object : List ℕ → List ℕ
 module_object name = codes "module " ++ spell name
+
+abbrev pub number_object : ℕ → List ℕ
+number_object number = codes "number " ++ decimal number
 
 -- a place of a file, by its byte counted from 0
 abbrev pub place_object : ℕ → List ℕ

@@ -1,17 +1,41 @@
--- The lines of reports: what each prints, and what is so after it.
-use Rattle.std.specs.Prelude.{ℕ, List, ◌++◌, Option, Some, None}
-use Rattle.emh_shell.specs.Opened.{Opened}
-use Rattle.reports.specs.Pins.{pins_text}
-use Rattle.emh_shell.specs.Progress.{Progress, refusing}
+-- The lines of reports.
+use Rattle.std.specs.Prelude.{◌≡◌, ℕ, Bool, List, [], ◌∷◌, ◌++◌, zip, length, Option, Some, None, Ok, Err, codes, if◌then◌else◌}
+use Rattle.std.specs.List.{flat_map}
+use Rattle.std.specs.Fmt.{decimal}
+use Rattle.emh_base.specs.Text.{spell}
+use Rattle.emh_base.specs.declared.report.Kind.{Kind}
+use Rattle.emh_base.specs.declared.report.Kind.TheVariants.{Log}
+use Rattle.session_rules.specs.Session.{PlainSession}
+use Rattle.script_read.specs.Resolve.{Looked}
+use Rattle.script_read.specs.declared.lines.Line.{Line}
+use Rattle.reports.specs.Line.{line}
+use Rattle.reports.specs.Report.{report_of}
 use Rattle.emh_shell.specs.Printing.{ok_line}
-use Rattle.emh_shell.specs.Netlists.{no_design_line}
+use Rattle.emh_shell.specs.Answers.{Watched, Answer, Refuses, Accepts}
+use Rattle.emh_shell.specs.Objects.{rule_line}
 
--- `report pins`
-abbrev pub pins_report : ℕ → List ℕ → Option Opened → List ℕ
-pins_report number first None = no_design_line number first
-pins_report number first (Some design) = ok_line number ++ pins_text design.plain design.top
+-- `observer NAME on`, or off
+abbrev pub observer_line : List ℕ × Bool → List ℕ
+observer_line marked =
+    line (codes "observer" ∷ spell marked.0 ∷ (if marked.1 then codes "on" else codes "off") ∷ [])
 
--- a report changes nothing
-abbrev pub after_report : Progress → Option Opened → Progress
-after_report s None = refusing s
-after_report s (Some design) = s
+-- The report of the log: how many states there are to go back to and forth to, and which observers are enabled.
+abbrev pub log_text : List (List ℕ) → PlainSession → List ℕ
+log_text names session =
+    line (codes "past" ∷ decimal (length session.past) ∷ [])
+    ++ (line (codes "future" ∷ decimal (length session.future) ∷ [])
+    ++ flat_map observer_line (zip names session.enabled))
+
+-- the log is the session's, each other report the design's
+abbrev pub session_report : Watched → PlainSession → Kind → Option (Looked (List ℕ))
+session_report W session Log = Some (Ok (log_text W.names session))
+session_report W session kind = report_of session.now kind
+
+-- `report`: the report behind the line; it changes nothing
+abbrev pub reported : Line → PlainSession → Looked (List ℕ) → Answer
+reported asked session (Ok text) = Accepts (ok_line asked.number ++ text) session
+reported asked session (Err refusal) = Refuses (rule_line session.now.plain asked refusal)
+
+abbrev pub ReportAnswers : Line → PlainSession → Option (Looked (List ℕ)) → Answer → Type 0
+ReportAnswers asked session None answer = ⊥
+ReportAnswers asked session (Some looked) answer = answer ≡ reported asked session looked

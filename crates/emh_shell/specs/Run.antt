@@ -6,6 +6,7 @@ use Rattle.emh_io.specs.Files.{Files, without}
 use Rattle.emh_io.specs.Put.{gains}
 use Rattle.emh_io.specs.Told.{Shelved, Printed}
 use Rattle.script_read.specs.declared.lines.Line.{Line}
+use Rattle.emh_shell.specs.Answers.{Watched}
 use Rattle.emh_shell.specs.Fetching.{Lacks}
 use Rattle.emh_shell.specs.Steps.{Stores}
 use Rattle.emh_shell.specs.Play.{Play, Point, Stands, NextFetch, NextLine, Faulty}
@@ -33,42 +34,42 @@ Unstored files a b name =
 
 -- The whole form: the shelf holds the files after the first k lines, and the sink has written their whole text. What
 -- comes next is a fetch of that name, which came to nothing.
-pub record WholeAtFetch (words : List (List ℕ)) (a b : Shelved) (x y : Printed) : Type 0 where
+pub record WholeAtFetch (W : Watched) (words : List (List ℕ)) (a b : Shelved) (x y : Printed) : Type 0 where
   pub k : ℕ
   pub at : Point
   pub name : List ℕ
-  pub next : NextFetch a.holds words k at name
+  pub next : NextFetch W a.holds words k at name
   pub cause : Unfetched at.files a b name
   pub files : b.holds ≡ at.files
   pub text : y.written ≡ gains x.written at.text
 
 -- The whole form, where line k + 1 stores a file of that name, and that failed.
-pub record WholeAtStore (words : List (List ℕ)) (a b : Shelved) (x y : Printed) : Type 0 where
+pub record WholeAtStore (W : Watched) (words : List (List ℕ)) (a b : Shelved) (x y : Printed) : Type 0 where
   pub k : ℕ
   pub at : Point
   pub name : List ℕ
-  pub next : NextLine Stores a.holds words k at name
+  pub next : NextLine Stores W a.holds words k at name
   pub cause : Unstored at.files a b name
   pub text : y.written ≡ gains x.written at.text
 
 -- After its first k lines the plain session has this text and these files. Where nothing is run the one line that it
 -- prints stands for the text.
-abbrev pub After : Option Files → List (List ℕ) → ℕ → List ℕ → Option Files → Type 0
-After files words k text after =
+abbrev pub After : Watched → Option Files → List (List ℕ) → ℕ → List ℕ → Option Files → Type 0
+After W files words k text after =
     ((k ≡ 0) × ((text ≡ []) ⊎ Faulty files words text) × (after ≡ files))
-    ⊎ ((lines : List Line) × (p : Point) × Stands files words lines k p × (text ≡ p.text)
+    ⊎ ((lines : List Line) × (p : Point) × Stands W files words lines k p × (text ≡ p.text)
     × (after ≡ p.files))
 
 -- The cut form: the shelf holds the files after the first k lines, and the sink has written the front of their text.
-pub record Cut (words : List (List ℕ)) (a b : Shelved) (x y : Printed) : Type 0 where
+pub record Cut (W : Watched) (words : List (List ℕ)) (a b : Shelved) (x y : Printed) : Type 0 where
   pub k : ℕ
   pub front : List ℕ
   pub rest : List ℕ
-  pub after : After a.holds words k (front ++ rest) b.holds
+  pub after : After W a.holds words k (front ++ rest) b.holds
   pub text : y.written ≡ gains x.written front
 
 -- the plain session's text is written, and the shelf holds its files
-pub record Played (words : List (List ℕ)) (a b : Shelved) (x y : Printed) (status : ℕ) : Type 0 where
+pub record Played (W : Watched) (words : List (List ℕ)) (a b : Shelved) (x y : Printed) (status : ℕ) : Type 0 where
   pub text : List ℕ
-  pub plays : Play a.holds words text b.holds status
+  pub plays : Play W a.holds words text b.holds status
   pub written : y.written ≡ gains x.written text

@@ -1,52 +1,77 @@
 -- One line of the plain session: from files and a progress to what it prints, and to the files and the progress after it.
-use Rattle.std.specs.Prelude.{◌≡◌, ℕ, List, [], Bool, true, false, Option, Some, None, IsSome, slice_index_or}
-use Rattle.emh_base.specs.declared.report.Kind.TheVariants.{Pins}
+use Rattle.std.specs.Prelude.{◌≡◌, ℕ, List, [], Bool, true, false, Option, Some, None, IsSome}
 use Rattle.emh_io.specs.Files.{Files}
+use Rattle.session_rules.specs.Session.{PlainSession}
+use Rattle.script_read.specs.Resolve.{resolution}
 use Rattle.script_read.specs.declared.command.Command.{Command}
-use Rattle.script_read.specs.declared.command.Command.TheVariants.{Load, Cells, Write, Compare, Report}
+use Rattle.script_read.specs.declared.command.Command.TheVariants.{Load, Cells, Write, Compare, Generate, Churn, Undo, Redo, Observe, Ignore, Report}
 use Rattle.script_read.specs.declared.lines.Line.{Line}
 use Rattle.emh_shell.specs.Progress.{Progress}
+use Rattle.emh_shell.specs.Answers.{Watched, Answer, Answered}
+use Rattle.emh_shell.specs.Objects.{word_at}
 use Rattle.emh_shell.specs.Netlists.{Loads, AddsCells, Writes, Compares}
-use Rattle.emh_shell.specs.Reports.{pins_report, after_report}
+use Rattle.emh_shell.specs.Edits.{EditAnswers}
+use Rattle.emh_shell.specs.History.{UndoAnswers, RedoAnswers}
+use Rattle.emh_shell.specs.Observers.{mark_answer}
+use Rattle.emh_shell.specs.Reports.{session_report, ReportAnswers}
 
 -- the first word of a line
-abbrev pub first_word : List (List ℕ) → List ℕ
-first_word words = slice_index_or words 0 []
+abbrev pub first_word : Line → List ℕ
+first_word line = word_at line 0
 
--- what a command of a line with that number and first word does; a command that isn't run does nothing
-abbrev pub Does : Command → ℕ → List ℕ → Option Files → Progress → List ℕ → Option Files → Progress → Type 0
-Does (Load file top) number first files s said after t =
-    Loads number file top files s said t × (after ≡ files)
-Does (Cells file) number first files s said after t =
-    AddsCells number file files s said t × (after ≡ files)
-Does (Write file) number first files s said after t =
-    Writes number first file files s said after t s.design
-Does (Compare file top) number first files s said after t =
-    Compares number first file top files s said t s.design × (after ≡ files)
-Does (Report Pins) number first files s said after t =
-    (said ≡ pins_report number first s.design) × (after ≡ files) × (t ≡ after_report s s.design)
-Does _ number first files s said after t = (said ≡ []) × (after ≡ files) × (t ≡ s)
+-- the commands that are about the open session and no file
+abbrev pub asks_session : Command → Bool
+asks_session (Load file top) = false
+asks_session (Cells file) = false
+asks_session (Write file) = false
+asks_session (Compare file top) = false
+asks_session (Generate seed modules width) = false
+asks_session (Churn seed turns) = false
+asks_session _ = true
 
-abbrev pub Steps : Line → Option Files → Progress → List ℕ → Option Files → Progress → Type 0
-Steps line files s said after t = Does line.command line.number (first_word line.words) files s said after t
+-- what a command that is about the open session answers there
+abbrev pub SessionAnswers : Watched → Command → Line → PlainSession → Answer → Type 0
+SessionAnswers W Undo line session answer = UndoAnswers line.number (first_word line) session answer
+SessionAnswers W Redo line session answer = RedoAnswers line.number (first_word line) session answer
+SessionAnswers W (Observe name) line session answer = answer ≡ mark_answer W line name true session
+SessionAnswers W (Ignore name) line session answer = answer ≡ mark_answer W line name false session
+SessionAnswers W (Report kind) line session answer =
+    ReportAnswers line session (session_report W session kind) answer
+SessionAnswers W command line session answer = EditAnswers W line session (resolution session.now command) answer
+
+-- what the command of a line does; one that isn't run does nothing
+abbrev pub Does : Watched → Command → Line → Option Files → Progress → List ℕ → Option Files → Progress → Type 0
+Does W (Load file top) line files s said after t =
+    Loads line.number file top files s said t × (after ≡ files)
+Does W (Cells file) line files s said after t =
+    AddsCells line.number file files s said t × (after ≡ files)
+Does W (Write file) line files s said after t =
+    Writes line.number (first_word line) file files s said after t s.session
+Does W (Compare file top) line files s said after t =
+    Compares line.number (first_word line) file top files s said t s.session × (after ≡ files)
+Does W (Generate seed modules width) line files s said after t =
+    (said ≡ []) × (after ≡ files) × (t ≡ s)
+Does W (Churn seed turns) line files s said after t = (said ≡ []) × (after ≡ files) × (t ≡ s)
+Does W command line files s said after t =
+    Answered line.number (first_word line) (SessionAnswers W command line) s said t × (after ≡ files)
+
+abbrev pub Steps : Watched → Line → Option Files → Progress → List ℕ → Option Files → Progress → Type 0
+Steps W line files s said after t = Does W line.command line files s said after t
 
 -- the name of the file that a command fetches
 abbrev pub Fetches : Command → Progress → List ℕ → Type 0
 Fetches (Load file top) s name = name ≡ file
 Fetches (Cells file) s name = name ≡ file
-Fetches (Compare file top) s name = IsSome s.design × (name ≡ file)
+Fetches (Compare file top) s name = IsSome s.session × (name ≡ file)
 Fetches _ s name = ⊥
 
 -- the name of the file that a command stores
 abbrev pub Stores : Command → Progress → List ℕ → Type 0
-Stores (Write file) s name = IsSome s.design × (name ≡ file)
+Stores (Write file) s name = IsSome s.session × (name ≡ file)
 Stores _ s name = ⊥
 
 -- the commands that are run; a line that asks for another one is bad for now
 abbrev pub is_run : Command → Bool
-is_run (Load file top) = true
-is_run (Cells file) = true
-is_run (Write file) = true
-is_run (Compare file top) = true
-is_run (Report Pins) = true
-is_run _ = false
+is_run (Generate seed modules width) = false
+is_run (Churn seed turns) = false
+is_run _ = true

@@ -1,3 +1,4 @@
 pub mod Ends
 pub mod Halts
 pub mod Replies
+pub mod Telling

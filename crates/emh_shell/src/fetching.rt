@@ -4,11 +4,11 @@ ghost use Rattle.emh_base.specs.declared.file.TheConstants.{FILE_LIMIT};
 ghost use Rattle.flatten_rules.specs.Sound.{IsSound};
 ghost use Rattle.emh_shell.specs.Fetching.{HasTable, HasDesign};
 ghost use Rattle.emh_shell.specs.inside.Ends.{FetchEnds};
-ghost use Rattle.emh_shell.specs.inside.Replies.{IsTable, IsDesign};
+ghost use Rattle.emh_shell.specs.inside.Replies.{IsTable, IsDesign, IsFresh, state_of};
 
-use crate::design::Design;
 use crate::fault::{DesignFault, FileFault, Halt};
-use edit_rules::{OpenFault, fit};
+use desk::Desk;
+use edit_rules::OpenFault;
 use emh_base::{Name, NoMemory, Plain};
 use emh_io::{FetchFault, Shelf};
 use std::alloc::Global;
@@ -59,35 +59,34 @@ fn read_table(
     }
 }
 
-/// A file of the shelf as a design with a module of that name at its top, or what is wrong with it.
+/// A file of the shelf as a design with a module of that name at its top, or what is wrong with it. Nothing is placed,
+/// set or remembered in it.
 pub fn fetch_design<F: Shelf>(
     alloc: Global,
     library: &Plain,
     file: &[u8],
     top: &Name,
     shelf: &mut F,
-) -> Result<Result<Design, DesignFault>, Halt>
+) -> Result<Result<Desk, DesignFault>, Halt>
     requires { IsSound library.now }
-    ensures { FetchEnds (HasDesign (F.told shelf.old).holds library.now file.now top.now)
-        file.now (F.told shelf.old) (F.told shelf.new) result }
+    ensures ends { FetchEnds (λ reply. HasDesign (F.told shelf.old).holds library.now file.now top.now
+        (state_of reply)) file.now (F.told shelf.old) (F.told shelf.new) result }
+    ensures fresh { IfOk result (λ reply. IfOk reply IsFresh) }
 {
     match fetch_table(alloc, library, false, file, shelf)? {
-        Ok(plain) => Ok(open_table(alloc, plain, top)?),
+        Ok(plain) => Ok(open_table(plain, top)?),
         Err(fault) => Ok(Err(DesignFault::File(fault))),
     }
 }
 
 /// The design of a table at the named top, or why it isn't opened.
-fn open_table(
-    alloc: Global,
-    plain: Plain,
-    top: &Name,
-) -> Result<Result<Design, DesignFault>, NoMemory>
+fn open_table(plain: Plain, top: &Name) -> Result<Result<Desk, DesignFault>, NoMemory>
     requires { IsSound plain }
-    ensures { IfOk result (IsDesign plain top.now) }
+    ensures design { IfOk result (λ reply. IsDesign plain top.now (state_of reply)) }
+    ensures fresh { IfOk result (λ reply. IfOk reply IsFresh) }
 {
-    match fit(alloc, &plain, top) {
-        Ok(id) => Ok(Ok(Design::new(plain, id))),
+    match Desk::open(plain, top) {
+        Ok(desk) => Ok(Ok(desk)),
         Err(OpenFault::NoMemory) => Err(NoMemory),
         Err(fault) => Ok(Err(DesignFault::Opening(fault))),
     }

@@ -1,11 +1,15 @@
 //! The top call: a script over a shelf of files, with all that it prints and stores.
 #![tactic(auto)]
 
-mod design;
+mod answer;
+mod edits;
 mod fault;
 mod fetching;
+mod history;
 mod laws;
 mod netlists;
+mod objects;
+mod observers;
 mod play;
 mod printing;
 mod progress;
@@ -14,7 +18,6 @@ mod report;
 mod script;
 mod step;
 
-pub use design::Design;
 pub use fault::{DesignFault, FileFault};
 pub use laws::each_session_once;
 pub use play::run;

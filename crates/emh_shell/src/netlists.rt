@@ -1,52 +1,53 @@
 //! The commands of netlists.
-ghost use Rattle.std.specs.Prelude.{◌≡◌, ◌↔◌, ◌++◌, ℕ, List, IsTrue, IfOk};
+ghost use Rattle.std.specs.Prelude.{◌≡◌, ◌↔◌, ◌++◌, List, IsTrue, IfOk, OnOk};
+ghost use Rattle.emh_base.specs.declared.state.State.{State};
 ghost use Rattle.flatten_rules.specs.Sound.{IsSound};
+ghost use Rattle.flatten_rules.specs.Design.{IsGood};
 ghost use Rattle.flatten_rules.specs.FlatLines.{flat_lines};
 ghost use Rattle.script_read.specs.declared.command.Command.TheVariants.{Load, Cells, Write, Compare};
 ghost use Rattle.vlog_write.specs.Written.{written};
 ghost use Rattle.emh_shell.specs.Printing.{ok_line};
-ghost use Rattle.emh_shell.specs.Netlists.{no_design_line, TellsWhether};
+ghost use Rattle.emh_shell.specs.Answers.{Watched};
+ghost use Rattle.emh_shell.specs.Progress.{opening};
+ghost use Rattle.emh_shell.specs.Netlists.{TellsWhether};
 ghost use Rattle.emh_shell.specs.inside.Ends.{CommandEnds};
+ghost use Rattle.emh_shell.specs.inside.Replies.{IsFresh};
 
-use crate::design::Design;
+use crate::answer::no_design_line;
 use crate::fault::Halt;
 use crate::fetching::{fetch_design, fetch_table};
-use crate::printing::{ok_line, refused_line, word_object};
+use crate::printing::ok_line;
 use crate::progress::Progress;
-use emh_base::{List, Name, NoMemory, Plain};
+use desk::Desk;
+use emh_base::{List, Name, NoMemory, Plain, State};
 use emh_io::{Shelf, StoreFault};
+use emh_session::Session;
 use flatten_rules::flat_lines;
+use script_read::Line;
 use std::alloc::Global;
 use vlog_write::{write_cells, write_modules};
 
-/// The line of a command that needs a design, where none is open, by its first word.
-pub fn no_design_line(alloc: Global, number: u32, first: &[u8]) -> Result<List<u8>, NoMemory>
-    ensures { IfOk result (λ text. text ≡ no_design_line number first.now) }
-{
-    let object = word_object(alloc, first)?;
-    refused_line(alloc, number, 27, object.as_slice())
-}
-
-/// `load FILE TOP`: opens the file's design. A refused one leaves the open design.
+/// `load FILE TOP`: begins a session on the file's design. A refused one leaves the open session.
 pub fn load<F: Shelf>(
     alloc: Global,
-    number: u32,
+    line: &Line,
     file: &[u8],
     top: &Name,
     progress: &mut Progress,
     shelf: &mut F,
 ) -> Result<List<u8>, Halt>
-    ensures { (first : List ℕ) → CommandEnds (Load file.now top.now) number first
+    ensures ends { (W : Watched) → CommandEnds W (Load file.now top.now) line.now
         (F.told shelf.old) (F.told shelf.new) progress.old progress.new result }
+    ensures watchers { progress.new.watchers ≡ progress.old.watchers }
 {
     match fetch_design(alloc, progress.library(), file, top, shelf)? {
-        Ok(design) => {
-            let said = ok_line(alloc, number)?;
-            progress.open(design);
+        Ok(desk) => {
+            let said = ok_line(alloc, line.number)?;
+            progress.open(alloc, desk)?;
             Ok(said)
         }
         Err(fault) => {
-            let said = fault.line(alloc, number, file, top)?;
+            let said = fault.line(alloc, line.number, file, top)?;
             progress.refuse();
             Ok(said)
         }
@@ -56,22 +57,23 @@ pub fn load<F: Shelf>(
 /// `cells FILE`: adds the file's modules to the library, as leaves. A refused one leaves the library.
 pub fn cells<F: Shelf>(
     alloc: Global,
-    number: u32,
+    line: &Line,
     file: &[u8],
     progress: &mut Progress,
     shelf: &mut F,
 ) -> Result<List<u8>, Halt>
-    ensures { (first : List ℕ) → CommandEnds (Cells file.now) number first
+    ensures ends { (W : Watched) → CommandEnds W (Cells file.now) line.now
         (F.told shelf.old) (F.told shelf.new) progress.old progress.new result }
+    ensures watchers { progress.new.watchers ≡ progress.old.watchers }
 {
     match fetch_table(alloc, progress.library(), true, file, shelf)? {
         Ok(library) => {
-            let said = ok_line(alloc, number)?;
+            let said = ok_line(alloc, line.number)?;
             progress.set_library(library);
             Ok(said)
         }
         Err(fault) => {
-            let said = fault.line(alloc, number, file)?;
+            let said = fault.line(alloc, line.number, file)?;
             progress.refuse();
             Ok(said)
         }
@@ -81,24 +83,24 @@ pub fn cells<F: Shelf>(
 /// `write FILE`: stores the open design as a netlist.
 pub fn write<F: Shelf>(
     alloc: Global,
-    number: u32,
-    first: &[u8],
+    line: &Line,
     file: &[u8],
     progress: &mut Progress,
     shelf: &mut F,
 ) -> Result<List<u8>, Halt>
-    ensures { CommandEnds (Write file.now) number first.now
+    ensures ends { (W : Watched) → CommandEnds W (Write file.now) line.now
         (F.told shelf.old) (F.told shelf.new) progress.old progress.new result }
+    ensures watchers { progress.new.watchers ≡ progress.old.watchers }
 {
-    match progress.design() {
+    match progress.session() {
         None => {
-            let said = no_design_line(alloc, number, first)?;
+            let said = no_design_line(alloc, line)?;
             progress.refuse();
             Ok(said)
         }
-        Some(design) => {
-            let said = ok_line(alloc, number)?;
-            let bytes = written(design.plain())?;
+        Some(session) => {
+            let said = ok_line(alloc, line.number)?;
+            let bytes = written(&session.desk().state().plain)?;
             match shelf.store(file, bytes.as_slice()) {
                 Ok(()) => Ok(said),
                 Err(StoreFault::Failed) => Err(Halt::Store),
@@ -121,25 +123,25 @@ fn written(plain: &Plain) -> Result<List<u8>, NoMemory>
 /// `compare FILE TOP`: tells whether the file's design has the flat netlist of the open one.
 pub fn compare<F: Shelf>(
     alloc: Global,
-    number: u32,
-    first: &[u8],
+    line: &Line,
     file: &[u8],
     top: &Name,
     progress: &mut Progress,
     shelf: &mut F,
 ) -> Result<List<u8>, Halt>
-    ensures { CommandEnds (Compare file.now top.now) number first.now
+    ensures ends { (W : Watched) → CommandEnds W (Compare file.now top.now) line.now
         (F.told shelf.old) (F.told shelf.new) progress.old progress.new result }
+    ensures watchers { progress.new.watchers ≡ progress.old.watchers }
 {
-    let Some(design) = progress.design() else {
-        let said = no_design_line(alloc, number, first)?;
+    let Some(session) = progress.session() else {
+        let said = no_design_line(alloc, line)?;
         progress.refuse();
         return Ok(said);
     };
     match fetch_design(alloc, progress.library(), file, top, shelf)? {
-        Ok(other) => Ok(compared(alloc, number, design, &other)?),
+        Ok(other) => Ok(compared(alloc, line.number, session.desk().state(), other.state())?),
         Err(fault) => {
-            let said = fault.line(alloc, number, file, top)?;
+            let said = fault.line(alloc, line.number, file, top)?;
             progress.refuse();
             Ok(said)
         }
@@ -147,20 +149,17 @@ pub fn compare<F: Shelf>(
 }
 
 /// What a comparison prints of two designs.
-fn compared(
-    alloc: Global,
-    number: u32,
-    design: &Design,
-    other: &Design,
-) -> Result<List<u8>, NoMemory>
+fn compared(alloc: Global, number: u32, design: &State, other: &State) -> Result<List<u8>, NoMemory>
+    requires design { IsGood design.now.plain design.now.top }
+    requires other { IsGood other.now.plain other.now.top }
     ensures { IfOk result (λ said. (told : List ℕ)
         × TellsWhether (flat_lines other.now.plain other.now.top
         ≡ flat_lines design.now.plain design.now.top) told
         × (said ≡ ok_line number ++ told)) }
 {
     let mut said = ok_line(alloc, number)?;
-    let lines = flat_lines(alloc, design.plain(), design.top())?;
-    let others = flat_lines(alloc, other.plain(), other.top())?;
+    let lines = flat_lines(alloc, &design.plain, design.top)?;
+    let others = flat_lines(alloc, &other.plain, other.top)?;
     if are_same(others.as_slice(), lines.as_slice()) {
         said.extend(b"same\n")?;
     } else {
@@ -184,4 +183,16 @@ fn are_same(lines: &[List<u8>], others: &[List<u8>]) -> bool
         at += 1;
     }
     true
+}
+
+impl Progress {
+    /// Begins a session on a design in place of the one that was open.
+    fn open(&mut self, alloc: Global, desk: Desk) -> Result<(), NoMemory>
+        requires { IsFresh desk }
+        ensures ok { OnOk result (self.new ≡ opening self.old desk.state) }
+        ensures watchers { self.new.watchers ≡ self.old.watchers }
+    {
+        self.session = Some(Session::open(alloc, desk, self.budget, self.watchers)?);
+        Ok(())
+    }
 }

@@ -1,6 +1,6 @@
 //! What a line of a script prints first.
 ghost use Rattle.std.specs.Prelude.{◌≡◌, ◌++◌, IfOk};
-ghost use Rattle.emh_shell.specs.Printing.{ok_line, refused_line, word_object, module_object, place_object, text_object};
+ghost use Rattle.emh_shell.specs.Printing.{ok_line, edit_line, refused_line, word_object, number_object, module_object, place_object, text_object};
 
 use emh_base::{List, Name, NoMemory, push_number, push_spelled};
 use std::alloc::Global;
@@ -12,6 +12,18 @@ pub fn ok_line(alloc: Global, number: u32) -> Result<List<u8>, NoMemory>
 {
     let mut text = List::from_slice(alloc, b"ok ")?;
     push_number(&mut text, u64::from(number))?;
+    text.push(b'\n')?;
+    Ok(text)
+}
+
+/// `ok LINE K`, for an accepted edit, to which observers added so many.
+pub fn edit_line(alloc: Global, number: u32, added: u32) -> Result<List<u8>, NoMemory>
+    ensures { IfOk result (λ text. text ≡ edit_line number added) }
+{
+    let mut text = List::from_slice(alloc, b"ok ")?;
+    push_number(&mut text, u64::from(number))?;
+    text.push(b' ')?;
+    push_number(&mut text, u64::from(added))?;
     text.push(b'\n')?;
     Ok(text)
 }
@@ -43,6 +55,14 @@ pub fn word_object(alloc: Global, word: &[u8]) -> Result<List<u8>, NoMemory>
 {
     let mut text = List::from_slice(alloc, b"word ")?;
     text.extend(word)?;
+    Ok(text)
+}
+
+pub fn number_object(alloc: Global, number: u32) -> Result<List<u8>, NoMemory>
+    ensures { IfOk result (λ text. text ≡ number_object number) }
+{
+    let mut text = List::from_slice(alloc, b"number ")?;
+    push_number(&mut text, u64::from(number))?;
     Ok(text)
 }
 

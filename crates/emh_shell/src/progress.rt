@@ -1,49 +1,70 @@
-ghost use Rattle.std.specs.Prelude.{◌≡◌};
+ghost use Rattle.std.specs.Prelude.{◌≡◌, ◌≤◌};
 ghost use Rattle.std.specs.Option.{option_copied};
 ghost use Rattle.flatten_rules.specs.Sound.{IsSound};
-ghost use Rattle.emh_shell.specs.Progress.{at_first, refusing, opening};
+ghost use Rattle.emh_shell.specs.Progress.{at_first, refusing};
 
-use crate::design::Design;
 use emh_base::{List, Plain};
+use emh_session::Session;
 use std::alloc::Global;
 use std::marker::Model;
 
-/// Where a script stands between two lines: the modules over which netlists are read, the open design, and whether a
-/// line was refused so far.
-#[derive(Debug, Drop)]
+/// Where a script stands between two lines: the modules over which netlists are read, the session of the open design,
+/// and whether a line was refused so far; and what sessions are begun with.
+#[derive(Drop)]
 pub struct Progress {
-    library: Plain,
-    design: Option<Design>,
-    has_refused: bool,
+    pub(crate) library: Plain,
+    pub(crate) session: Option<Session>,
+    pub(crate) has_refused: bool,
+    /// How many changes observers may add to a command.
+    pub(crate) budget: u32,
+    /// How many observers there are.
+    pub(crate) watchers: u32,
 }
 
 impl Model for Progress {
+    ghost use Rattle.std.specs.Prelude.{◌≡◌, ◌≤◌, length, IfSome};
+    ghost use Rattle.std.specs.Coded.{codes};
     ghost use Rattle.flatten_rules.specs.Sound.{IsSound};
+    ghost use Rattle.desk.specs.inside.Code.{places_code};
     ghost use Rattle.emh_shell.specs.Progress as seen;
 
     ghost Value = { seen.Progress };
 
+    ghost coded = { Prim.hlevel (codes, places_code) };
+
     ghost view = { λ s. record {
       library = s.library;
-      design = s.design;
+      session = s.session;
       has_refused = s.has_refused;
+      budget = s.budget;
+      watchers = s.watchers;
     } };
 
-    ghost invariant = { λ s. IsSound s.library };
+    ghost invariant = { λ s. record {
+      library : IsSound s.library;
+      marks : IfSome s.session (λ session. length session.enabled ≡ s.watchers);
+      budget : s.budget ≤ 100000;
+      watchers : s.watchers ≤ 64;
+    } };
 }
 
 impl Progress {
-    /// Before the first line: no modules, and no design.
-    pub fn new(alloc: Global) -> Progress
-        ensures { result ≡ at_first }
+    /// Before the first line: no modules, and no design. Observers may add `budget` changes to a command, at most
+    /// 100,000, and there are `watchers` of them, at most 64.
+    pub fn new(alloc: Global, budget: u32, watchers: u32) -> Progress
+        requires budget { budget ≤ 100000 }
+        requires watchers { watchers ≤ 64 }
+        ensures { result ≡ at_first budget watchers }
     {
         Progress {
             library: Plain {
                 modules: List::new(alloc),
                 next_module: 0,
             },
-            design: None,
+            session: None,
             has_refused: false,
+            budget,
+            watchers,
         }
     }
 
@@ -55,11 +76,11 @@ impl Progress {
         &self.library
     }
 
-    /// The open design, if there is one.
-    pub fn design(&self) -> Option<&Design>
-        ensures { option_copied result ≡ self.now.design }
+    /// The session of the open design, if there is one.
+    pub fn session(&self) -> Option<&Session>
+        ensures { option_copied result ≡ self.now.session }
     {
-        self.design.as_ref()
+        self.session.as_ref()
     }
 
     /// Whether a line was refused so far.
@@ -74,13 +95,6 @@ impl Progress {
         ensures { self.new ≡ refusing self.old }
     {
         self.has_refused = true;
-    }
-
-    /// Opens a design in place of the one that was open.
-    pub fn open(&mut self, design: Design)
-        ensures { self.new ≡ opening self.old design }
-    {
-        self.design = Some(design);
     }
 
     /// Takes a library in place of the one that was there.

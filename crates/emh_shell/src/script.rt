@@ -5,7 +5,7 @@ ghost use Rattle.script_read.specs.Script.{IsScriptAnswer};
 ghost use Rattle.emh_shell.specs.Steps.{is_run};
 ghost use Rattle.emh_shell.specs.Script.{first_idle, lines_to_run, fault_line};
 
-use emh_base::{Kind, List, NoMemory, push_number};
+use emh_base::{List, NoMemory, push_number};
 use script_read::{Command, Line, Script, ScriptFault, script};
 use std::alloc::Global;
 
@@ -31,14 +31,7 @@ fn first_idle(lines: &[Line]) -> Option<&Line>
 fn is_run(command: &Command) -> bool
     ensures { result ≡ is_run command.now }
 {
-    matches!(
-        command,
-        Command::Load { .. }
-            | Command::Cells { .. }
-            | Command::Write { .. }
-            | Command::Compare { .. }
-            | Command::Report(Kind::Pins)
-    )
+    !matches!(command, Command::Generate { .. } | Command::Churn { .. })
 }
 
 /// The line that names the first bad line.

@@ -5,6 +5,7 @@ ghost use Rattle.std.specs.Prelude.{◌≡◌, ◌≤◌};
 ghost use Rattle.std.specs.IoError.{error_kind};
 
 use emh_io::{FileShelf, OutSink};
+use emh_session::Observer;
 use emh_shell::run;
 use std::io::ErrorKind;
 use std::process::ExitCode;
@@ -50,7 +51,8 @@ fn status_of<R: Runtime + AllocGlobal>(rt: &R, words: &[String]) -> u8
     };
     let mut shelf = FileShelf::new(rt.alloc(), files);
     let mut out = OutSink::new(io::writer(rt));
-    run(rt.alloc(), words, &mut shelf, &mut out)
+    let watch: [Box<dyn Observer>; 0] = [];
+    run(rt.alloc(), words, &mut shelf, &mut out, &watch)
 }
 
 /// The status where the words can't be had.

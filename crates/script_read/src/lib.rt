@@ -29,5 +29,6 @@ pub use laws::{
     first_words_are_known,
 };
 pub use lines::{LINE_LIMIT, Line, Script, ScriptFault, script};
+pub use put::put_path;
 pub use resolving::resolve;
 pub use text::text_of;

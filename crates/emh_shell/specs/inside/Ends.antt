@@ -5,37 +5,38 @@ use Rattle.emh_io.specs.PutAll.{Front}
 use Rattle.emh_io.specs.Put.{gains}
 use Rattle.emh_io.specs.Told.{Shelved, Printed}
 use Rattle.script_read.specs.declared.command.Command.{Command}
-use Rattle.emh_shell.specs.Progress.{Progress}
 use Rattle.script_read.specs.declared.lines.Line.{Line}
-use Rattle.emh_shell.specs.Steps.{Does, Fetches, Stores, first_word}
+use Rattle.emh_shell.specs.Progress.{Progress}
+use Rattle.emh_shell.specs.Answers.{Watched}
+use Rattle.emh_shell.specs.Steps.{Does, Fetches, Stores}
 use Rattle.emh_shell.specs.Run.{QuietShelf, Unfetched, Unstored, WholeAtFetch, WholeAtStore, Cut, Played}
 use Rattle.emh_shell.specs.declared.fault.Halt.{Halt}
 use Rattle.emh_shell.specs.declared.fault.Halt.TheVariants.{Fetch, Store, Put, NoMemory}
 
 -- a run of a command line's words
-abbrev pub Ends : List (List ℕ) → Shelved → Shelved → Printed → Printed → Result ℕ Halt → Type 0
-Ends words a b x y (Ok status) =
-    (status < 3) × Played words a b x y status × QuietShelf a b × (y.faults ≡ x.faults)
-Ends words a b x y (Err Fetch) = WholeAtFetch words a b x y
-Ends words a b x y (Err Store) = WholeAtStore words a b x y
-Ends words a b x y (Err Put) = Cut words a b x y × Rose x.faults y.faults
-Ends words a b x y (Err NoMemory) = Cut words a b x y
+abbrev pub Ends : Watched → List (List ℕ) → Shelved → Shelved → Printed → Printed → Result ℕ Halt → Type 0
+Ends W words a b x y (Ok status) =
+    (status < 3) × Played W words a b x y status × QuietShelf a b × (y.faults ≡ x.faults)
+Ends W words a b x y (Err Fetch) = WholeAtFetch W words a b x y
+Ends W words a b x y (Err Store) = WholeAtStore W words a b x y
+Ends W words a b x y (Err Put) = Cut W words a b x y × Rose x.faults y.faults
+Ends W words a b x y (Err NoMemory) = Cut W words a b x y
 
--- a command of a line with that number and first word
-abbrev pub CommandEnds : Command → ℕ → List ℕ → Shelved → Shelved → Progress → Progress
+-- the command of a line
+abbrev pub CommandEnds : Watched → Command → Line → Shelved → Shelved → Progress → Progress
     → Result (List ℕ) Halt → Type 0
-CommandEnds command number first a b s t (Ok said) =
-    Does command number first a.holds s said b.holds t × QuietShelf a b
-CommandEnds command number first a b s t (Err Fetch) =
+CommandEnds W command line a b s t (Ok said) =
+    Does W command line a.holds s said b.holds t × QuietShelf a b
+CommandEnds W command line a b s t (Err Fetch) =
     (name : List ℕ) × Fetches command s name × Unfetched a.holds a b name × (b.holds ≡ a.holds)
-CommandEnds command number first a b s t (Err Store) =
+CommandEnds W command line a b s t (Err Store) =
     (name : List ℕ) × Stores command s name × Unstored a.holds a b name
-CommandEnds command number first a b s t (Err Put) = ⊥
-CommandEnds command number first a b s t (Err NoMemory) = b.holds ≡ a.holds
+CommandEnds W command line a b s t (Err Put) = ⊥
+CommandEnds W command line a b s t (Err NoMemory) = b.holds ≡ a.holds
 
-abbrev pub LineEnds : Line → Shelved → Shelved → Progress → Progress → Result (List ℕ) Halt → Type 0
-LineEnds line a b s t result =
-    CommandEnds line.command line.number (first_word line.words) a b s t result
+abbrev pub LineEnds : Watched → Line → Shelved → Shelved → Progress → Progress
+    → Result (List ℕ) Halt → Type 0
+LineEnds W line a b s t result = CommandEnds W line.command line a b s t result
 
 -- a fetch of a file of that name, and what is then made of it, of which that holds
 abbrev pub FetchEnds : {X : Type 0} → (X → Type 0) → List ℕ → Shelved → Shelved → Result X Halt → Type 0
