@@ -8,3 +8,5 @@ pub mod OneAnswer
 pub mod OneStep
 pub mod Once
 pub mod OncePlay
+pub mod Placing
+pub mod Observing

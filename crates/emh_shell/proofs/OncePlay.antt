@@ -2,7 +2,8 @@ use Rattle.std.proofs.Common.{◌≡◌, ℕ, List, [], ◌∷◌, Some, None, i
 use Rattle.std.specs.Prelude.{◌⊎◌, if◌then◌else◌}
 use Rattle.emh_io.specs.Files.{Files}
 use Rattle.emh_shell.specs.Answers.{Watched}
-use Rattle.emh_shell.specs.Words.{Asked, asked}
+use Rattle.command_line.specs.CommandLine.{asked}
+use Rattle.command_line.specs.declared.words.Asked.{Asked}
 use Rattle.emh_shell.specs.Script.{lines_to_run, fault_line}
 use Rattle.script_read.specs.declared.lines.Line.{Line}
 use Rattle.emh_shell.specs.Fetching.{Gives, Lacks}

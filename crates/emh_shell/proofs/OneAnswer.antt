@@ -40,17 +40,17 @@ no_last (y ∷ ys) x e = let never : [] ≡ y ∷ (ys ++ x ∷ []) = e in cc
 
 one_last : {X : Type 0} (xs ys : List X) (x y : X) → xs ++ x ∷ [] ≡ ys ++ y ∷ [] → (xs ≡ ys) × (x ≡ y)
 one_last [] [] x y e = (refl, cc)
-one_last [] (b ∷ bs) x y e =
-    let tails : [] ≡ bs ++ y ∷ [] = (let whole : x ∷ [] ≡ b ∷ (bs ++ y ∷ []) = e in cc) in
-    absurd (no_last bs y tails)
-one_last (a ∷ as) [] x y e =
-    let tails : [] ≡ as ++ x ∷ [] = (let whole : y ∷ [] ≡ a ∷ (as ++ x ∷ []) = sym e in cc) in
-    absurd (no_last as x tails)
-one_last (a ∷ as) (b ∷ bs) x y e =
-    let whole : a ∷ (as ++ x ∷ []) ≡ b ∷ (bs ++ y ∷ []) = e in
-    let heads : a ≡ b = cc in
-    let tails : as ++ x ∷ [] ≡ bs ++ y ∷ [] = cc in
-    let rest = one_last as bs x y tails in
+one_last [] (q ∷ qs) x y e =
+    let tails : [] ≡ qs ++ y ∷ [] = (let whole : x ∷ [] ≡ q ∷ (qs ++ y ∷ []) = e in cc) in
+    absurd (no_last qs y tails)
+one_last (p ∷ ps) [] x y e =
+    let tails : [] ≡ ps ++ x ∷ [] = (let whole : y ∷ [] ≡ p ∷ (ps ++ x ∷ []) = sym e in cc) in
+    absurd (no_last ps x tails)
+one_last (p ∷ ps) (q ∷ qs) x y e =
+    let whole : p ∷ (ps ++ x ∷ []) ≡ q ∷ (qs ++ y ∷ []) = e in
+    let heads : p ≡ q = cc in
+    let tails : ps ++ x ∷ [] ≡ qs ++ y ∷ [] = cc in
+    let rest = one_last ps qs x y tails in
     (rw (heads, rest.0) refl, rest.1)
 
 one_before : (old new other : PlainSession) → Undoes old new → Undoes old other → new ≡ other

@@ -9,7 +9,8 @@ use Rattle.emh_shell.specs.declared.fault.Halt.{Halt}
 use Rattle.emh_shell.specs.declared.fault.Halt.TheVariants.{Fetch, Store, Put, NoMemory}
 use Rattle.emh_shell.specs.Printing.{usage_line}
 use Rattle.emh_shell.specs.Answers.{Watched}
-use Rattle.emh_shell.specs.Words.{Asked, asked}
+use Rattle.command_line.specs.CommandLine.{asked}
+use Rattle.command_line.specs.declared.words.Asked.{Asked}
 use Rattle.emh_shell.specs.Fetching.{Gives, Lacks}
 use Rattle.emh_shell.specs.Play.{start, FaultyAsk, Faulty}
 use Rattle.emh_io.specs.PutAll.{Front, PutsAll}
@@ -87,17 +88,7 @@ Ends-fault W words a b x y text (Err Store) faulty kept quiet ends = absurd ends
 Ends-fault W words a b x y text (Err Put) faulty kept quiet ends = (Cut-fault W words a b x y text faulty kept ends.0, ends.1)
 Ends-fault W words a b x y text (Err NoMemory) faulty kept quiet ends = Cut-fault W words a b x y text faulty kept ends
 
--- one word is a script's name, any other number of words isn't
-
-pub asked-none : {X : Type 0} (spell : X → List ℕ) (words : List X) → (length words ≡ 1 → ⊥) → asked (map spell words) ≡ None
-asked-none spell [] other = refl
-asked-none spell (name ∷ []) other = absurd (other refl)
-asked-none spell (first ∷ second ∷ others) other = refl
-
-pub asked-one : {X : Type 0} (spell : X → List ℕ) (xs : List X) (x : X) → length xs ≡ 1 → x ≡ get_or xs 0 x → asked (map spell xs) ≡ Some (record { budget = 1000; script = spell x })
-asked-one spell [] x one at = absurd (omega (arith, one))
-asked-one spell (y ∷ []) x one at = ap (λ z. Some (let ask : Asked = record { budget = 1000; script = spell z } in ask)) (sym at)
-asked-one spell (y ∷ z ∷ zs) x one at = absurd (omega (arith, one))
+-- nothing is asked, or a script
 
 pub Faulty-words : (files : Option Files) (words : List (List ℕ)) → asked words ≡ None → Faulty files words usage_line
 Faulty-words files words none = rw none refl

@@ -1,4 +1,3 @@
-pub mod Words
 pub mod Progress
 pub mod Printing
 pub mod Answers

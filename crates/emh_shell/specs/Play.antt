@@ -6,7 +6,8 @@ use Rattle.script_read.specs.declared.command.Command.{Command}
 use Rattle.script_read.specs.declared.lines.Line.{Line}
 use Rattle.script_read.specs.declared.lines.ScriptFault.{ScriptFault}
 use Rattle.emh_shell.specs.Printing.{usage_line, too_long_line}
-use Rattle.emh_shell.specs.Words.{Asked, asked}
+use Rattle.command_line.specs.CommandLine.{asked}
+use Rattle.command_line.specs.declared.words.Asked.{Asked}
 use Rattle.emh_shell.specs.Answers.{Watched}
 use Rattle.emh_shell.specs.Progress.{Progress, at_first}
 use Rattle.emh_shell.specs.Fetching.{Gives, Lacks}

@@ -1,7 +1,6 @@
 -- The lines of reports.
 use Rattle.std.specs.Prelude.{◌≡◌, ℕ, Bool, List, [], ◌∷◌, ◌++◌, zip, length, Option, Some, None, Ok, Err, codes, if◌then◌else◌}
 use Rattle.std.specs.List.{flat_map}
-use Rattle.std.specs.Fmt.{decimal}
 use Rattle.emh_base.specs.Text.{spell}
 use Rattle.emh_base.specs.declared.report.Kind.{Kind}
 use Rattle.emh_base.specs.declared.report.Kind.TheVariants.{Log}
@@ -9,6 +8,7 @@ use Rattle.session_rules.specs.Session.{PlainSession}
 use Rattle.script_read.specs.Resolve.{Looked}
 use Rattle.script_read.specs.declared.lines.Line.{Line}
 use Rattle.reports.specs.Line.{line}
+use Rattle.reports.specs.Counts.{count_line}
 use Rattle.reports.specs.Report.{report_of}
 use Rattle.emh_shell.specs.Printing.{ok_line}
 use Rattle.emh_shell.specs.Answers.{Watched, Answer, Refuses, Accepts}
@@ -19,12 +19,14 @@ abbrev pub observer_line : List ℕ × Bool → List ℕ
 observer_line marked =
     line (codes "observer" ∷ spell marked.0 ∷ (if marked.1 then codes "on" else codes "off") ∷ [])
 
+abbrev pub observer_lines : List (List ℕ) → List Bool → List ℕ
+observer_lines names marks = flat_map observer_line (zip names marks)
+
 -- The report of the log: how many states there are to go back to and forth to, and which observers are enabled.
 abbrev pub log_text : List (List ℕ) → PlainSession → List ℕ
 log_text names session =
-    line (codes "past" ∷ decimal (length session.past) ∷ [])
-    ++ (line (codes "future" ∷ decimal (length session.future) ∷ [])
-    ++ flat_map observer_line (zip names session.enabled))
+    count_line (codes "past") (length session.past)
+    ++ (count_line (codes "future") (length session.future) ++ observer_lines names session.enabled)
 
 -- the log is the session's, each other report the design's
 abbrev pub session_report : Watched → PlainSession → Kind → Option (Looked (List ℕ))

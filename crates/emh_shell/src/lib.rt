@@ -19,6 +19,6 @@ mod script;
 mod step;
 
 pub use fault::{DesignFault, FileFault};
-pub use laws::each_session_once;
+pub use laws::{each_edit_keeps_placements, each_session_once};
 pub use play::run;
 pub use progress::Progress;

@@ -4,7 +4,8 @@ ghost use Rattle.emh_io.specs.Count.{Rose};
 ghost use Rattle.emh_shell.specs.Answers.{watched};
 ghost use Rattle.emh_shell.specs.Fetching.{Gives};
 ghost use Rattle.emh_shell.specs.Play.{Reads};
-ghost use Rattle.emh_shell.specs.Words.{Asked, asked};
+ghost use Rattle.command_line.specs.CommandLine.{asked};
+ghost use Rattle.command_line.specs.declared.words.Asked.{Asked};
 ghost use Rattle.emh_shell.specs.Run.{Played, WholeAtFetch, WholeAtStore, Cut, QuietShelf, Failed};
 ghost use Rattle.emh_shell.specs.inside.Ends.{Ends, FaultEnds};
 
@@ -12,18 +13,17 @@ use crate::fault::Halt;
 use crate::progress::Progress;
 use crate::script::{bad_line, read_script};
 use crate::step::step;
+use command_line::ask;
 use emh_io::{FetchFault, Shelf, Sink, put_all};
 use emh_session::Observer;
 use script_read::{Line, ScriptFault};
 use std::alloc::Global;
 
-/// How many changes observers may add to a command.
-const BUDGET: u32 = 1000;
-
-/// Runs the script that the one word names, over a shelf of files, and prints all that it says to a sink. The observers
-/// are told of each edit where a line has enabled them; they may add 1,000 changes to it. There are at most 64.
+/// Runs the script that the words ask for, `[--budget N] SCRIPT`, over a shelf of files, and prints all that it says to a
+/// sink. The observers, at most 64, are told of each edit where a line has enabled them; they may add so many changes to
+/// it as the budget says.
 ///
-/// The status is 0 where each line was accepted and 1 where one was refused; 2 where the words aren't one name or the
+/// The status is 0 where each line was accepted and 1 where one was refused; 2 where the words ask for nothing or the
 /// bytes are no script, and then nothing is run; 3 where a file can't be fetched; 4 where a file can't be stored or the
 /// text can't be written; 5 for want of memory. At 3, 4 and 5 nothing more is printed.
 pub fn run<F: Shelf, K: Sink>(
@@ -73,7 +73,7 @@ pub fn run<F: Shelf, K: Sink>(
     }
 }
 
-/// Plays the script that the one word names.
+/// Plays the script that the words ask for.
 fn run_words<F: Shelf, K: Sink>(
     alloc: Global,
     words: &[String],
@@ -85,10 +85,13 @@ fn run_words<F: Shelf, K: Sink>(
     ensures { Ends (watched (λ b. called b) (λ b. wants b) watch.now) (map string_bytes words.now)
         (F.told shelf.old) (F.told shelf.new) (K.told out.old) (K.told out.new) result }
 {
-    if words.len() != 1 {
-        return print_fault(out, b"usage emhdb [--budget N] SCRIPT\n".as_slice());
+    match ask(alloc, words)? {
+        None => print_fault(out, b"usage emhdb [--budget N] SCRIPT\n".as_slice()),
+        Some(ask) => {
+            let script = ask.script.as_slice();
+            run_named(alloc, ask.budget, script, shelf, out, watch)
+        }
     }
-    run_named(alloc, BUDGET, words[0].as_bytes(), shelf, out, watch)
 }
 
 /// Fetches the script of that name and plays it under a budget.

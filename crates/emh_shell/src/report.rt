@@ -1,16 +1,16 @@
 //! The lines of reports.
-ghost use Rattle.std.specs.Prelude.{◌≡◌, ◌∷◌, ◌++◌, IfOk, length, map, zip};
-ghost use Rattle.std.specs.List.{flat_map};
+ghost use Rattle.std.specs.Prelude.{◌≡◌, ◌++◌, IfOk, OnOk, length, map};
+ghost use Rattle.emh_base.specs.Text.{spell};
 ghost use Rattle.emh_shell.specs.Answers.{watched};
-ghost use Rattle.emh_shell.specs.Reports.{ReportAnswers, session_report, log_text, observer_line};
+ghost use Rattle.emh_shell.specs.Reports.{ReportAnswers, session_report, log_text, observer_lines, observer_line};
 ghost use Rattle.emh_shell.specs.inside.Telling.{Tells};
 
 use crate::answer::Told;
 use crate::objects::rule_line;
 use crate::printing::ok_line;
-use emh_base::{Kind, List, NoMemory, push_number, push_spelled_bytes};
+use emh_base::{Kind, List, NoMemory};
 use emh_session::{Observer, Session};
-use reports::{ReportFault, push_report};
+use reports::{ReportFault, push_count, push_report};
 use script_read::Line;
 use std::alloc::Global;
 
@@ -42,4 +42,59 @@ pub fn report(
         }
         Err(ReportFault::NoMemory) => Err(NoMemory),
     }
+}
+
+/// Puts the report of the log last.
+fn push_log(
+    session: &Session,
+    watch: &[Box<dyn Observer>],
+    out: &mut List<u8>,
+) -> Result<(), NoMemory>
+    requires watched { length watch.now ≡ length session.now.enabled }
+    ensures { OnOk result (out.new
+        ≡ out.old ++ log_text (map (λ b. called b) watch.now) session.now) }
+{
+    let desk = session.desk();
+    push_count(b"past", desk.past_len() as u64, out)?;
+    push_count(b"future", desk.future_len() as u64, out)?;
+    push_observers(session, watch, out)
+}
+
+/// Puts a line for each observer last, whether it is enabled.
+fn push_observers(
+    session: &Session,
+    watch: &[Box<dyn Observer>],
+    out: &mut List<u8>,
+) -> Result<(), NoMemory>
+    requires watched { length watch.now ≡ length session.now.enabled }
+    ensures { OnOk result (out.new
+        ≡ out.old ++ observer_lines (map (λ b. called b) watch.now) session.now.enabled) }
+{
+    for (i, member) in watch.iter().enumerate() {
+        push_observer(member, session.is_enabled(i as u32), out)?;
+    }
+    Ok(())
+}
+
+fn push_observer(
+    member: &Box<dyn Observer>,
+    enabled: bool,
+    out: &mut List<u8>,
+) -> Result<(), NoMemory>
+    ensures { OnOk result (out.new ≡ out.old ++ observer_line (called member.now, enabled)) }
+{
+    out.extend(b"observer ")?;
+    push_spelled_bytes(out, member.name())?;
+    if enabled {
+        out.extend(b" on\n")
+    } else {
+        out.extend(b" off\n")
+    }
+}
+
+// DEV STUB, to be taken from emh_base
+fn push_spelled_bytes(out: &mut List<u8>, name: &[u8]) -> Result<(), NoMemory>
+    ensures { OnOk result (out.new ≡ out.old ++ spell name.now) }
+{
+    out.extend(name)
 }

@@ -4,5 +4,6 @@ pub mod Counts
 pub mod Occurrences
 pub mod Modules
 pub mod Where
+pub mod Report
 pub mod Worked
 pub mod inside

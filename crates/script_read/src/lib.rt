@@ -29,6 +29,7 @@ pub use laws::{
     first_words_are_known,
 };
 pub use lines::{LINE_LIMIT, Line, Script, ScriptFault, script};
+pub use number::number_of;
 pub use put::put_path;
 pub use resolving::resolve;
 pub use text::text_of;
