@@ -4,6 +4,5 @@ pub mod Counts
 pub mod Occurrences
 pub mod Modules
 pub mod Where
-pub mod Report
 pub mod Worked
 pub mod inside

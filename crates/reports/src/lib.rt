@@ -2,19 +2,15 @@
 #![tactic(auto)]
 
 mod counts;
-mod fault;
 mod laws;
 mod modules;
 mod occurrences;
 mod pins;
-mod report;
 mod whereabouts;
 
-pub use counts::{push_count, push_counts};
-pub use fault::ReportFault;
+pub use counts::push_counts;
 pub use laws::two_level_reports;
 pub use modules::push_modules;
 pub use occurrences::push_occurrences;
 pub use pins::push_pins;
-pub use report::push_report;
 pub use whereabouts::push_whereabouts;
