@@ -24,8 +24,7 @@ use Rattle.flatten_rules.specs.Texts.{names_up}
 use Rattle.flatten_rules.specs.inside.Steps.{path_of, IsStep, AreSteps, LeadsDown}
 use Rattle.flatten_rules.specs.declared.walk.way.Step.{Step}
 use Rattle.flatten_rules.proofs.Sound.{sound-module, All-find, master-there}
-use Rattle.flatten_rules.proofs.Walks.{and_then-some}
-use Rattle.flatten_rules.proofs.Tracing.{sound-up}
+use Rattle.flatten_rules.proofs.Walks.{and_then-some, sound-up}
 use Rattle.flatten_rules.proofs.Places.{item-there}
 
 -- the last of some steps, and those above it
