@@ -156,15 +156,6 @@ pins-behind walk m ports others port offset parts h =
       more = more-pins m others nets;
     }
 
-pub pins-one_more : (walk : Walking) (m : PModule) (ports others : List PPort) (port : PPort) (net : PNet) (offset : ℕ) → ports ≡ port ∷ others → Some net ≡ net_of m port.net → offset + 1 < width net.range → ArePinsLeft walk m ports offset → ArePinsLeft walk m ports (offset + 1)
-pins-one_more walk m ports others port net offset parts there within h = record {
-  found = h.found;
-  sound = h.sound;
-  there = h.there;
-  nets = h.nets;
-  more = rw (parts, ← there) within;
-}
-
 -- the next pin of a port, and what is left behind it
 module _ (before : PinWalking) (walk : Walking) (m : PModule) (ports others : List PPort) (port : PPort) (net : PNet) (offset : ℕ) (is : before.rest ≡ (pin_walking walk m ports offset).rest) (parts : ports ≡ port ∷ others) (found : Some net ≡ net_of m port.net) (h : ArePinsLeft walk m ports offset) where
   abbrev pin : NetId → Pin
