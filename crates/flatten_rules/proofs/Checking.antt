@@ -1,7 +1,7 @@
 -- What the checks of soundness rest on: connections one by one, ports and their flags.
-use Rattle.std.proofs.Common.{◌≡◌, ◌≢◌, ℕ, ◌↔◌, ◌+◌, ◌<◌, ◌≤◌, ◌==◌, zero, suc, Bool, true, false, List, [], ◌∷◌, ◌++◌, length, take, set, replicate, get_or, find, position, is_some, Vec, Global, Option, Some, None, IsTrue, IsSome, All, AllPairs, refl, sym, ap, ◌∙◌, subst, arith, ⊎_elim}
+use Rattle.std.proofs.Common.{◌≡◌, ◌≢◌, ℕ, ◌↔◌, ◌+◌, ◌<◌, ◌≤◌, ◌==◌, zero, suc, Bool, true, false, List, [], ◌∷◌, ◌++◌, length, take, set, get_or, find, position, is_some, Vec, Global, Option, Some, None, IsTrue, IsSome, All, AllPairs, refl, sym, ap, ◌∙◌, subst, arith, ⊎_elim}
 use Rattle.std.proofs.lemmas.Bool.{cases_lt, cases_eq, false≢true, both_ways, eqb-true, eq-eqb, ne_eqb}
-use Rattle.std.proofs.lemmas.List.{take_more, length-take, length-set, length-replicate, get_or-replicate, length_push, get_or_push, get_or_append_left, get_or-take, get_or-set_same, get_or-set_other, get_or_default}
+use Rattle.std.proofs.lemmas.List.{take_more, length-take, length-set, length_push, get_or_push, get_or_append_left, get_or-take, get_or-set_same, get_or-set_other, get_or_default}
 use Rattle.std.proofs.lemmas.List.Elements.{All-push, All-from_get_or}
 use Rattle.std.proofs.lemmas.List.Quantifiers.{all_pairs_push, position-Some}
 use Rattle.emh_base.specs.declared.ids.NetId.{NetId}
@@ -12,7 +12,7 @@ use Rattle.emh_base.specs.declared.plain.PModule.{PModule}
 use Rattle.emh_base.specs.declared.plain.Plain.{Plain}
 use Rattle.flatten_rules.specs.Lookup.{net_of, port_of}
 use Rattle.flatten_rules.specs.Sound.{FitPorts, FitsPort, IsSoundModule}
-use Rattle.flatten_rules.specs.Checks.{HasNets, HasPorts, ArePortPlaces, AreAllPortPlaces, port_place}
+use Rattle.flatten_rules.specs.Checks.{HasNets, HasPorts, ArePortPlaces, port_place}
 use Rattle.flatten_rules.proofs.Places.{item-there, position-within, position-none, position-push_yes, position-push_no, none-fails, find-from_place, find-from_none}
 
 -- connections fit ports where there are as many, and each fits the port at its place
@@ -60,14 +60,6 @@ pub record Placed (m : PModule) (ports : List PPort) (places : List (Option ℕ)
   pub there : All (λ (port : PPort). IsSome (net_of m port.net)) ports
   pub differ : AllPairs (λ (a b : PPort). a.net ≢ b.net) ports
   pub each : (k : ℕ) (net : PNet) → k < length m.nets → get_or places k None ≡ position (has_net (get_or m.nets k net).id) ports
-
-pub placed-none : (m : PModule) (places : List (Option ℕ)) → places ≡ replicate (length m.nets) None → Placed m [] places
-placed-none m places is = record {
-  many = ap length is ∙ length-replicate (length m.nets) None;
-  there = λ k d within. absurd (omega arith);
-  differ = λ i j d below within. absurd (omega arith);
-  each = λ k net within. rw is (get_or-replicate (length m.nets) k None None within);
-}
 
 module _ (m : PModule) (nets : HasNets m) where
   -- a port whose net isn't there
@@ -219,14 +211,5 @@ first_places-more M all count m places room at before here = record {
       (cases_lt k count);
 }
 
-pub first_places-all : (M : Plain) (all : List (Vec (Option ℕ) Global)) (count : ℕ) → count ≡ length M.modules → FirstPlaces M count all → AreAllPortPlaces M all
-first_places-all M all count whole first = record {
-  many = first.many ∙ whole;
-  each = λ k m places within. first.each k m places (omega arith);
-}
-
 pub sound-has_nets : (M : Plain) (m : PModule) → IsSoundModule M m → HasNets m
 sound-has_nets M m sound = record { rise = sound.nets_rise; below = sound.nets_below; counter = sound.net_counter; ranges = sound.ranges }
-
-pub sound-has_ports : (M : Plain) (m : PModule) → IsSoundModule M m → HasPorts m
-sound-has_ports M m sound = record { there = sound.ports_there; differ = sound.ports_differ }

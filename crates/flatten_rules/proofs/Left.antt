@@ -15,11 +15,11 @@ use Rattle.flatten_rules.specs.Lookup.{module_of, net_of, width, width_of}
 use Rattle.flatten_rules.specs.Sound.{IsAllowed, IsSoundModule}
 use Rattle.flatten_rules.specs.Unfolding.{Occurrence, occurrences, module_up}
 use Rattle.flatten_rules.specs.Domains.{NetBit, Pin, bits_of_net, bits_inside, net_bits, pins_of_port, pins, port_net}
-use Rattle.flatten_rules.specs.Fresh.{pins_inside}
 use Rattle.flatten_rules.specs.Texts.{net_up}
-use Rattle.flatten_rules.specs.Walking.{Walking, PinWalking, ComesTo, GoesOn, IsNextPin}
-use Rattle.flatten_rules.specs.inside.Left.{nets_inside, ports_inside, bits_left, bit_walking, HasMore, AreLeft, pins_left, pin_walking, HasPinMore, ArePinsLeft}
-use Rattle.flatten_rules.proofs.Walks.{find-own, same-some, id-of_found, id-of_net}
+use Rattle.flatten_rules.specs.Walking.{Walking, PinWalking, GoesOn, IsNextPin}
+use Rattle.flatten_rules.specs.inside.Left.{nets_inside, ports_inside, bits_left, bit_walking, HasMore, AreLeft, pins_inside, pins_left, pin_walking, HasPinMore, ArePinsLeft}
+use Rattle.flatten_rules.proofs.Walks.{find-own, id-of_found, id-of_net}
+use Rattle.flatten_rules.proofs.Comes.{is-at}
 use Rattle.flatten_rules.proofs.Sound.{All-find}
 use Rattle.flatten_rules.proofs.Flattening.{pins-all}
 
@@ -53,40 +53,24 @@ more-all : (nets : List PNet) → HasMore nets 0
 more-all [] = tt
 more-all (net ∷ nets) = wide net.range
 
-module _ (before after : Walking) (m : PModule) (nets : List PNet) (comes : ComesTo before after) (there : module_up after.plain after.top (reverse after.path) ≡ Some m) (sound : IsSoundModule after.plain m) (all : nets ≡ nets_inside m) where
-  same : comes.holder ≡ m
-  same = same-some (module_up after.plain after.top (reverse after.path)) comes.holder m comes.there there
-
-  pub bits-enter : flat_map (λ (o : Occurrence). bits_inside o.0 (module_of after.plain o.1)) before.rest ≡ bits_left after.path nets 0 ++ flat_map (λ (o : Occurrence). bits_inside o.0 (module_of after.plain o.1)) after.rest
-  bits-enter =
-      ap (flat_map (λ (o : Occurrence). bits_inside o.0 (module_of after.plain o.1))) comes.next
-      ∙ ap (λ x. bits_inside after.path x ++ flat_map (λ (o : Occurrence). bits_inside o.0 (module_of after.plain o.1)) after.rest) (comes.found ∙ ap Some same)
-      ∙ ap (λ x. x ++ flat_map (λ (o : Occurrence). bits_inside o.0 (module_of after.plain o.1)) after.rest) (inside-all after.path m m.leaf refl ∙ ap (flat_map (bits_of_net after.path)) (sym all) ∙ sym (left-all after.path nets))
-
-  pub bits-entered : AreLeft after nets 0
-  bits-entered = record {
-    there = rw all (all-inside (λ (net : PNet). net_up after.plain after.top (reverse after.path) net.id ≡ Some net) m m.leaf refl (own-nets after.plain after.top (reverse after.path) m sound there));
-    allowed = rw all (all-inside (λ (net : PNet). IsAllowed net.range) m m.leaf refl sound.ranges);
-    more = more-all nets;
-  }
-
-goes-same : (more : Bool) (before after : Walking) → GoesOn more before after → more ≡ true → ComesTo before after
-goes-same true before after goes is = goes
-goes-same false before after goes is = absurd (false≢true is)
-
 -- the next occurrence has its bits
 pub bits-go_on : (M : Plain) (top : ModId) (before after : Walking) (old nets : List PNet) (offset : ℕ) (m : PModule) (rest : List NetBit) (more : Bool) → old ≡ [] → before.plain ≡ M → before.top ≡ top → after.plain ≡ before.plain → after.top ≡ before.top → rest ≡ (bit_walking before old offset).rest → GoesOn more before after → more ≡ true → module_up after.plain after.top (reverse after.path) ≡ Some m → IsSoundModule after.plain m → nets ≡ nets_inside m → record { plain : after.plain ≡ M; top : after.top ≡ top; left : AreLeft after nets 0; rest : rest ≡ (bit_walking after nets 0).rest }
 bits-go_on M top before after old nets offset m rest more none plain is_top same same_top is goes one there sound all =
-    let comes = goes-same more before after goes one in
+    let at = is-at before after m more goes one there in
     record {
       plain = same ∙ plain;
       top = same_top ∙ is_top;
-      left = bits-entered before after m nets comes there sound all;
+      left = record {
+        there = rw all (all-inside (λ (net : PNet). net_up after.plain after.top (reverse after.path) net.id ≡ Some net) m m.leaf refl (own-nets after.plain after.top (reverse after.path) m sound there));
+        allowed = rw all (all-inside (λ (net : PNet). IsAllowed net.range) m m.leaf refl sound.ranges);
+        more = more-all nets;
+      };
       rest =
           is
           ∙ ap (λ x. bits_left before.path x offset ++ flat_map (λ (o : Occurrence). bits_inside o.0 (module_of before.plain o.1)) before.rest) none
           ∙ ap (λ P. flat_map (λ (o : Occurrence). bits_inside o.0 (module_of P o.1)) before.rest) (sym same)
-          ∙ bits-enter before after m nets comes there sound all;
+          ∙ ap (flat_map (λ (o : Occurrence). bits_inside o.0 (module_of after.plain o.1))) at.next
+          ∙ ap (λ x. x ++ flat_map (λ (o : Occurrence). bits_inside o.0 (module_of after.plain o.1)) after.rest) (ap (bits_inside after.path) at.found ∙ inside-all after.path m m.leaf refl ∙ ap (flat_map (bits_of_net after.path)) (sym all) ∙ sym (left-all after.path nets));
     }
 
 -- the next bit of a net, and what is left behind it
@@ -141,16 +125,13 @@ more-pins m (port ∷ ports) all = wide-there (net_of m port.net) (All-head (λ 
 -- the next occurrence has its pins
 pub pins-go_on : (M : Plain) (top : ModId) (before after : Walking) (old ports : List PPort) (offset : ℕ) (was m : PModule) (rest : List Pin) (more : Bool) → old ≡ [] → before.plain ≡ M → before.top ≡ top → after.plain ≡ before.plain → after.top ≡ before.top → rest ≡ (pin_walking before was old offset).rest → GoesOn more before after → more ≡ true → module_up after.plain after.top (reverse after.path) ≡ Some m → IsSoundModule after.plain m → ports ≡ ports_inside m → record { plain : after.plain ≡ M; top : after.top ≡ top; left : ArePinsLeft after m ports 0; rest : rest ≡ (pin_walking after m ports 0).rest }
 pins-go_on M top before after old ports offset was m rest more none plain is_top same same_top is goes one there sound all =
-    let comes = goes-same more before after goes one in
-    let holder : comes.holder ≡ m = same-some (module_up after.plain after.top (reverse after.path)) comes.holder m comes.there there in
-    let found : module_of after.plain comes.id ≡ Some m = comes.found ∙ ap Some holder in
-    let id : m.id ≡ comes.id = id-of_found after.plain comes.id m found in
+    let at = is-at before after m more goes one there in
     let nets = all-ports (λ (port : PPort). IsSome (net_of m port.net)) m m.leaf refl sound.ports_there in
     record {
       plain = same ∙ plain;
       top = same_top ∙ is_top;
       left = record {
-        found = ap (module_of after.plain) id ∙ found;
+        found = at.found;
         sound = sound;
         there = λ k d within. rw there refl;
         nets = rw all nets;
@@ -160,9 +141,8 @@ pins-go_on M top before after old ports offset was m rest more none plain is_top
           is
           ∙ ap (λ x. pins_left before.plain (before.path, was.id) was x offset ++ flat_map (pins_inside before.plain) before.rest) none
           ∙ ap (λ P. flat_map (pins_inside P) before.rest) (sym same)
-          ∙ ap (flat_map (pins_inside after.plain)) comes.next
-          ∙ ap (λ x. x ++ flat_map (pins_inside after.plain) after.rest) (ports-inside after.plain (after.path, comes.id) m m.leaf found refl ∙ ap (flat_map (pins_of_port after.plain (after.path, comes.id))) (sym all) ∙ sym (pins-all_left after.plain (after.path, comes.id) m ports found))
-          ∙ ap (λ i. pins_left after.plain (after.path, i) m ports 0 ++ flat_map (pins_inside after.plain) after.rest) (sym id);
+          ∙ ap (flat_map (pins_inside after.plain)) at.next
+          ∙ ap (λ x. x ++ flat_map (pins_inside after.plain) after.rest) (ports-inside after.plain (after.path, m.id) m m.leaf at.found refl ∙ ap (flat_map (pins_of_port after.plain (after.path, m.id))) (sym all) ∙ sym (pins-all_left after.plain (after.path, m.id) m ports at.found));
     }
 
 pub pins-behind : (walk : Walking) (m : PModule) (ports others : List PPort) (port : PPort) (offset : ℕ) → ports ≡ port ∷ others → ArePinsLeft walk m ports offset → ArePinsLeft walk m others 0
@@ -175,15 +155,6 @@ pins-behind walk m ports others port offset parts h =
       nets = nets;
       more = more-pins m others nets;
     }
-
-pub pins-one_more : (walk : Walking) (m : PModule) (ports others : List PPort) (port : PPort) (net : PNet) (offset : ℕ) → ports ≡ port ∷ others → Some net ≡ net_of m port.net → offset + 1 < width net.range → ArePinsLeft walk m ports offset → ArePinsLeft walk m ports (offset + 1)
-pins-one_more walk m ports others port net offset parts there within h = record {
-  found = h.found;
-  sound = h.sound;
-  there = h.there;
-  nets = h.nets;
-  more = rw (parts, ← there) within;
-}
 
 -- the next pin of a port, and what is left behind it
 module _ (before : PinWalking) (walk : Walking) (m : PModule) (ports others : List PPort) (port : PPort) (net : PNet) (offset : ℕ) (is : before.rest ≡ (pin_walking walk m ports offset).rest) (parts : ports ≡ port ∷ others) (found : Some net ≡ net_of m port.net) (h : ArePinsLeft walk m ports offset) where

@@ -1,5 +1,5 @@
 -- What it says that no limit is passed.
-use Rattle.std.proofs.Common.{◌≡◌, ℕ, ◌≤◌, nat_lt, Bool, true, false, List, length, get_or, sum_by, Some, All, ap, sym, subst, refl, ◌∙◌, ◌==◌, arith, cond, Option, None}
+use Rattle.std.proofs.Common.{◌≡◌, ℕ, ◌≤◌, nat_lt, Bool, true, false, List, length, get_or, sum_by, All, ap, sym, refl, ◌∙◌, ◌==◌, arith}
 use Rattle.std.specs.List.{list_any}
 use Rattle.std.proofs.lemmas.Bool.Decides.{nat_tests}
 use Rattle.std.proofs.lemmas.List.Folds.{list_any_none, list_any_at}
@@ -12,8 +12,8 @@ use Rattle.flatten_rules.specs.Limits.{bits_of, WalksAreShort}
 use Rattle.flatten_rules.specs.Counting.{height}
 use Rattle.flatten_rules.specs.Sound.{IsSound}
 use Rattle.flatten_rules.proofs.Sound.{All-find}
-use Rattle.flatten_rules.proofs.Walks.{find-own, id-of_found, within-by_cases, height-within, walks-within}
-use Rattle.flatten_rules.specs.Limits.{is_too_deep, has_too_many_occurrences, has_too_many_bits, IsWithinByTests}
+use Rattle.flatten_rules.proofs.Walks.{id-of_found, within-by_cases, height-within, walks-within}
+use Rattle.flatten_rules.specs.Limits.{is_too_deep, IsWithinByTests}
 
 pub at_most : (limit n : ℕ) → nat_lt limit n ≡ false → n ≤ limit
 at_most limit n kept = grind (arith, nat_tests)

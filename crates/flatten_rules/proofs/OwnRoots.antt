@@ -1,5 +1,5 @@
 -- A net bit that leads no further up, told by how many instances of the way lead to it.
-use Rattle.std.proofs.Common.{◌≡◌, ℕ, ◌<◌, ◌≤◌, ◌==◌, Bool, true, false, ◌&&◌, List, take, length, refl, sym, ap, ◌∙◌, arith, Ordering, Less, Equal, Greater, is_eq, length-take, ⊎_elim}
+use Rattle.std.proofs.Common.{◌≡◌, ℕ, ◌<◌, ◌≤◌, ◌==◌, false, ◌&&◌, List, take, length, refl, sym, ap, ◌∙◌, arith, Ordering, Less, Equal, Greater, is_eq, length-take, ⊎_elim}
 use Rattle.std.proofs.lemmas.Bool.{cases_lt, eq-eqb, ne_eqb}
 use Rattle.std.proofs.lemmas.Cmp.{tied_itself}
 use Rattle.std.proofs.lemmas.List.{take_all}

@@ -17,8 +17,7 @@ use Rattle.flatten_rules.specs.Unfolding.{Occurrence, unfolded, occurrences, mod
 use Rattle.flatten_rules.specs.Way.{WayTo}
 use Rattle.flatten_rules.specs.Walking.{Walking, ComesTo}
 use Rattle.flatten_rules.specs.inside.Pending.{below, to_come, AreThere, pending_up, walking, IsWalk}
-use Rattle.flatten_rules.proofs.Walks.{find-own}
-use Rattle.flatten_rules.proofs.Tracing.{sound-up}
+use Rattle.flatten_rules.proofs.Walks.{find-own, sound-up}
 
 -- an instance of a module is the one of its id
 own-insts : (M : Plain) (top : ModId) (up : List InstId) (m : PModule) → IsSound M → module_up M top up ≡ Some m → All (λ (inst : PInst). inst_up M top inst.id up ≡ Some inst) m.insts

@@ -2,7 +2,7 @@
 use Rattle.std.proofs.Common.{◌≡◌, ℕ, zero, suc, ◌+◌, ◌-◌, ◌<◌, ◌≤◌, ◌==◌, List, [], ◌∷◌, ◌++◌, take, drop, reverse, length, get_or, slice_get, Option, Some, None, option_map, unwrap_or, IsSomeAnd, refl, sym, ap, ◌∙◌, subst, arith, append_assoc, append-nil, length-append, length-take}
 use Rattle.std.specs.Prelude.{Vec}
 use Rattle.std.specs.declared.alloc.Global.{Global}
-use Rattle.std.proofs.lemmas.List.{reverse-append, same_from_push, take_all, take-take, take_more, take-map, take-append-le, map_push, reverse-reverse, length-map}
+use Rattle.std.proofs.lemmas.List.{reverse-append, same_from_push, take_all, take-take, take_more, take-map, take-append-le, map_push, reverse-reverse}
 use Rattle.std.proofs.lemmas.List.Concat.{flat_map-append}
 use Rattle.std.proofs.lemmas.Option.{get_or_from_slice_get, slice_get_within}
 use Rattle.emh_base.specs.declared.ids.ModId.{ModId}
@@ -24,8 +24,7 @@ use Rattle.flatten_rules.specs.Texts.{names_up}
 use Rattle.flatten_rules.specs.inside.Steps.{path_of, IsStep, AreSteps, LeadsDown}
 use Rattle.flatten_rules.specs.declared.walk.way.Step.{Step}
 use Rattle.flatten_rules.proofs.Sound.{sound-module, All-find, master-there}
-use Rattle.flatten_rules.proofs.Walks.{and_then-some}
-use Rattle.flatten_rules.proofs.Tracing.{sound-up}
+use Rattle.flatten_rules.proofs.Walks.{and_then-some, sound-up}
 use Rattle.flatten_rules.proofs.Places.{item-there}
 
 -- the last of some steps, and those above it
@@ -150,9 +149,6 @@ module _ (M : Plain) (top : ModId) (first : PModule) (ports : List (Vec (Option 
   whole-text d all =
       rw (path-take steps d, take_all d steps all) (steps-text M top (reverse steps) front h.lead)
 
-  pub whole-path : reverse (take (length steps) (path_of steps)) ≡ reverse (path_of steps)
-  whole-path = ap reverse (take_all (length steps) (path_of steps) (omega (arith, length-map steps (λ (x : Step). x.inst.now.id))))
-
   pub whole-front : front ≡ front_text (names_up M top (reverse (path_of steps)))
   whole-front = rw (reverse-path steps) (steps-text M top (reverse steps) front h.lead)
 
@@ -241,9 +237,6 @@ root-own M top path d net offset none =
 pub root-through : (M : Plain) (top : ModId) (path : List InstId) (d : ℕ) (net : NetId) (offset : ℕ) (source : Src) → 0 < d → d ≤ length path → Some source ≡ source_above M top (reverse (take d path)) net offset → root_up M top (reverse (take d path)) net offset ≡ root_of_source (λ n k. root_up M top (reverse (take (d - 1) path)) n k) source
 root-through M top path d net offset source some within is =
     rw (root-step M top (reverse (take d path)) net offset, ← is, up-above path d some within) refl
-
-pub pin-open : (M : Plain) (top : ModId) (up : List InstId) (net : NetId) (offset : ℕ) → None ≡ source_above M top up net offset → None ≡ pin_root M top up net offset
-pin-open M top up net offset none = rw (pin-step M top up net offset, ← none) refl
 
 pub pin-through : (M : Plain) (top : ModId) (path : List InstId) (d : ℕ) (net : NetId) (offset : ℕ) (source : Src) → 0 < d → d ≤ length path → Some source ≡ source_above M top (reverse (take d path)) net offset → pin_root M top (reverse (take d path)) net offset ≡ Some (root_of_source (λ n k. root_up M top (reverse (take (d - 1) path)) n k) source)
 pin-through M top path d net offset source some within is =

@@ -18,7 +18,6 @@ use Rattle.emh_base.specs.declared.plain.Plain.{Plain}
 use Rattle.flatten_rules.specs.Lookup.{module_of, inst_of, insts_of, InstsRise}
 use Rattle.flatten_rules.specs.Unfolding.{Occurrence, unfolded, occurrences, module_up}
 use Rattle.flatten_rules.specs.Limits.{WalksAreShort}
-use Rattle.flatten_rules.specs.Sound.{IsSound}
 use Rattle.flatten_rules.specs.Walk.{id_up, Unfolds, EachWalkOnce}
 use Rattle.flatten_rules.specs.ByPath.{StandsBefore}
 use Rattle.flatten_rules.proofs.Sound.{All-find}
@@ -166,11 +165,11 @@ inst-id m i inst found =
 abbrev pub below : Plain → List InstId → ℕ → PInst → List Occurrence
 below M path levels inst = unfolded M (path ++ inst.id ∷ []) inst.master levels
 
-pub unfolded-zero : (M : Plain) (path : List InstId) (m : ModId) → unfolded M path m 0 ≡ []
+unfolded-zero : (M : Plain) (path : List InstId) (m : ModId) → unfolded M path m 0 ≡ []
 unfolding unfolded
 unfolded-zero M path m = refl
 
-pub unfolded-step : (M : Plain) (levels : ℕ) (path : List InstId) (m : ModId) → unfolded M path m (suc levels) ≡ (path, m) ∷ flat_map (below M path levels) (insts_of (module_of M m))
+unfolded-step : (M : Plain) (levels : ℕ) (path : List InstId) (m : ModId) → unfolded M path m (suc levels) ≡ (path, m) ∷ flat_map (below M path levels) (insts_of (module_of M m))
 unfolding unfolded
 unfolded-step M levels path m = refl
 
@@ -314,7 +313,3 @@ module _ (M : Plain) (rise : InstsRise M) where
 
 pub each_walk_once : EachWalkOnce
 each_walk_once M top rise short = unfolds M rise top short
-
--- the law in a sound table within the limits
-pub sound-unfolds : (M : Plain) (top : ModId) → IsSound M → WalksAreShort M → Unfolds M top
-sound-unfolds M top sound short = unfolds M (λ k d within. (sound.modules k d within).insts_rise) top short

@@ -90,6 +90,10 @@ unfolding module_up
 up-own M top [] m leads = found-own M top m leads
 up-own M top (i ∷ up) m leads = let step = last_step M top i up m leads in found-own M step.inst.master m step.master
 
+-- and sound
+pub sound-up : (M : Plain) (top : ModId) (up : List InstId) (m : PModule) → IsSound M → module_up M top up ≡ Some m → IsSoundModule M m
+sound-up M top up m sound leads = sound-module M m.id m sound (up-own M top up m leads)
+
 -- a module is as high as the walks from it are long
 walk-height : (M : Plain) (top : ModId) (up : List InstId) (m : PModule) (levels : ℕ) → module_up M top up ≡ Some m → length up + height M m.id levels ≤ height M top (length up + levels)
 unfolding module_up

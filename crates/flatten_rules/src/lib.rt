@@ -20,8 +20,6 @@ mod rank;
 mod reach;
 mod sorting;
 mod soundness;
-mod texts;
-mod tracer;
 mod walk;
 
 pub use cycle::first_on_cycle;

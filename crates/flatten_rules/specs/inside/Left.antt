@@ -8,8 +8,7 @@ use Rattle.emh_base.specs.declared.plain.PModule.{PModule}
 use Rattle.emh_base.specs.declared.plain.Plain.{Plain}
 use Rattle.flatten_rules.specs.Lookup.{module_of, net_of, width, width_of}
 use Rattle.flatten_rules.specs.Unfolding.{Occurrence}
-use Rattle.flatten_rules.specs.Domains.{NetBit, Pin, bits_of_net, bits_inside, pins_of_port}
-use Rattle.flatten_rules.specs.Fresh.{pins_inside}
+use Rattle.flatten_rules.specs.Domains.{NetBit, Pin, bits_of_net, bits_inside, is_leaf, ports_of, pins_of_port}
 use Rattle.flatten_rules.specs.Texts.{net_up}
 use Rattle.flatten_rules.specs.Sound.{IsAllowed, IsSoundModule}
 use Rattle.flatten_rules.specs.Walking.{Walking, BitWalking, PinWalking}
@@ -46,6 +45,10 @@ pub record AreLeft (walk : Walking) (nets : List PNet) (offset : ℕ) : Type 0 w
   pub there : All (λ (net : PNet). net_up walk.plain walk.top (reverse walk.path) net.id ≡ Some net) nets
   pub allowed : All (λ (net : PNet). IsAllowed net.range) nets
   pub more : HasMore nets offset
+
+-- the pins of an occurrence; none where it is no leaf
+abbrev pub pins_inside : Plain → Occurrence → List Pin
+pins_inside M o = if is_leaf (module_of M o.1) then flat_map (pins_of_port M o) (ports_of (module_of M o.1)) else []
 
 -- from a bit of the first of some ports on
 abbrev pub pins_left : Plain → Occurrence → PModule → List PPort → ℕ → List Pin

@@ -2,7 +2,8 @@ ghost use Rattle.std.specs.Prelude.{◌≡◌, ℕ, ◌<◌, ◌≤◌, ◌-◌,
 ghost use Rattle.emh_base.specs.Text.{spell, index_text, front_text, path_text, bit_text, pin_text};
 ghost use Rattle.flatten_rules.specs.Lookup.{module_of};
 ghost use Rattle.flatten_rules.specs.Unfolding.{module_up, inst_up};
-ghost use Rattle.flatten_rules.specs.Root.{source_above, root_up, root_of_source, pin_root};
+ghost use Rattle.flatten_rules.specs.Root.{source_through, source_above, root_up, root_of_source, pin_root};
+ghost use Rattle.flatten_rules.specs.Checks.{ArePortPlaces};
 ghost use Rattle.flatten_rules.specs.Domains.{is_own};
 ghost use Rattle.flatten_rules.specs.Texts.{names_up, root_text};
 ghost use Rattle.flatten_rules.specs.Sound.{IsSound, IsSoundModule};
@@ -10,11 +11,10 @@ ghost use Rattle.flatten_rules.specs.Design.{IsGood};
 ghost use Rattle.flatten_rules.specs.Way.{root_on, IsOn, names_to, with_path};
 
 use crate::lookup::{module_of, net_of, place_of_module};
-use crate::port::all_port_places;
-use crate::tracer::source_through;
+use crate::port::{all_port_places, port_place};
 use emh_base::{
-    InstId, List, ModId, Name, NetId, NoMemory, PInst, PModule, PNet, Path, Plain, Src, push_index,
-    push_spelled,
+    Conn, InstId, List, ModId, Name, NetId, NoMemory, PInst, PModule, PNet, Path, Plain, Root, Src,
+    push_index, push_spelled,
 };
 use std::alloc::Global;
 use std::marker::Model;
@@ -334,11 +334,33 @@ impl<'a> Way<'a> {
     pub fn path(&self, alloc: Global) -> Result<Path, NoMemory>
         ensures { IfOk result (λ path. path ≡ self.now.path) }
     {
+        self.path_to(alloc, self.depth())
+    }
+
+    /// The first so many instances of the way.
+    fn path_to(&self, alloc: Global, depth: usize) -> Result<Path, NoMemory>
+        requires { depth ≤ length self.now.path }
+        ensures { IfOk result (λ path. path ≡ take depth self.now.path) }
+    {
         let mut path = Path::new(alloc);
-        for step in &self.steps {
+        for step in &self.steps[..depth] {
             path.push(step.inst.id)?;
         }
         Ok(path)
+    }
+
+    /// The root that is told.
+    pub fn root_told(&self, alloc: Global, told: WayRoot) -> Result<Root, NoMemory>
+        requires { IsOn self.now.path told }
+        ensures { IfOk result (λ root. root ≡ root_on self.now.path told) }
+    {
+        match told {
+            WayRoot::Tie0 => Ok(Root::Tie0),
+            WayRoot::Tie1 => Ok(Root::Tie1),
+            WayRoot::Own { depth, net, offset } => {
+                Ok(Root::Own(self.path_to(alloc, depth)?, net, offset))
+            }
+        }
     }
 
     /// The place in the table of the master of an instance of the module at the end of the way.
@@ -352,6 +374,25 @@ impl<'a> Way<'a> {
             Some(place) => place,
             None => unreachable!(),
         }
+    }
+}
+
+/// The source of a net's bit through an instance of its module.
+fn source_through(
+    inst: &PInst,
+    master: &PModule,
+    places: &[Option<usize>],
+    net: NetId,
+    offset: u16,
+) -> Option<Src>
+    requires sound { (M : _) × IsSoundModule M master.now }
+    requires places { ArePortPlaces master.now places.now }
+    ensures { result ≡ source_through inst.now master.now net offset }
+{
+    let place = port_place(master, places, net)?;
+    match inst.conns.get(place)? {
+        Conn::Open => None,
+        Conn::Bits(bits) => bits.get(usize::from(offset)).copied(),
     }
 }
 

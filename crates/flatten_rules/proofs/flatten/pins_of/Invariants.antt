@@ -1,10 +1,15 @@
--- The pins are those of the occurrences so far.
-use Rattle.std.proofs.Common.{◌≡◌, map, take}
-use Rattle.std.specs.List.{flat_map}
-use Rattle.flatten_rules.specs.Unfolding.{occurrences}
-use Rattle.flatten_rules.specs.Fresh.{fresh_pin, pins_inside}
+use Rattle.std.proofs.Common.{◌≡◌, ◌++◌, map, length}
+use Rattle.flatten_rules.specs.Domains.{pins}
+use Rattle.flatten_rules.specs.Fresh.{fresh_pin}
 use Rattle.flatten_rules.proofs.flatten.pins_of.Given as goal
 
-abbrev pub invariant-loop-occ : goal.invariant-loop-occ
-invariant-loop-occ l = l.made ≡ map (fresh_pin l.tracer.plain.now l.tracer.top)
-    (flat_map (pins_inside l.tracer.plain.now) (take l.occ-index (occurrences l.tracer.plain.now l.tracer.top)))
+-- What is made so far, with what is still to come, is all.
+abbrev pub invariant-loop-pins : goal.invariant-loop-pins
+invariant-loop-pins l = record {
+  plain : l.pins.plain ≡ l.fn.plain;
+  top : l.pins.top ≡ l.fn.top;
+  all : l.made ++ map (fresh_pin l.fn.plain l.fn.top) l.pins.rest ≡ map (fresh_pin l.fn.plain l.fn.top) (pins l.fn.plain l.fn.top);
+}
+
+abbrev pub decreases-loop-pins : goal.decreases-loop-pins
+decreases-loop-pins l = length l.pins.rest

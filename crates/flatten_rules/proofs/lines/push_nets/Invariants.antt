@@ -1,13 +1,16 @@
--- The lines so far stand last.
-use Rattle.std.proofs.Common.{◌≡◌, ◌++◌, map, take}
+use Rattle.std.proofs.Common.{◌≡◌, ◌++◌, map, length}
 use Rattle.std.specs.List.{filter}
-use Rattle.flatten_rules.specs.declared.domain.FreshBit.{FreshBit}
-use Rattle.flatten_rules.specs.Domains.{is_own}
-use Rattle.flatten_rules.specs.Fresh.{net_bit_of}
+use Rattle.flatten_rules.specs.Domains.{NetBit, is_own, root_of, block_nets}
 use Rattle.flatten_rules.specs.FlatLines.{net_line}
 use Rattle.flatten_rules.proofs.lines.push_nets.Given as goal
 
-abbrev pub invariant-loop-bit : goal.invariant-loop-bit
-invariant-loop-bit l = l.lines.items ≡ l.initial.lines.items
-    ++ map (λ bit. net_line l.tracer.plain.now l.tracer.top (net_bit_of bit))
-    (filter (λ (bit : FreshBit). is_own (net_bit_of bit) bit.root) (take l.bit-index l.bits))
+-- The lines so far, with those that are still to come, are all.
+abbrev pub invariant-loop-bits : goal.invariant-loop-bits
+invariant-loop-bits l = record {
+  plain : l.bits.plain ≡ l.fn.plain;
+  top : l.bits.top ≡ l.fn.top;
+  all : l.lines.items ++ map (net_line l.fn.plain l.fn.top) (filter (λ (bit : NetBit). is_own bit (root_of l.fn.plain l.fn.top bit)) l.bits.rest) ≡ l.initial.lines.items ++ map (net_line l.fn.plain l.fn.top) (block_nets l.fn.plain l.fn.top);
+}
+
+abbrev pub decreases-loop-bits : goal.decreases-loop-bits
+decreases-loop-bits l = length l.bits.rest

@@ -1,5 +1,5 @@
 use Rattle.std.proofs.Common.{reverse, arith}
-use Rattle.reports.proofs.Comes.{net-there}
+use Rattle.flatten_rules.proofs.Comes.{net-there}
 use Rattle.reports.proofs.occurrences.push_bits.Goals as goal
 
 pub push_net_bits-requires-clause-there : goal.push_net_bits-requires-clause-there

@@ -3,7 +3,7 @@ use Rattle.flatten_rules.specs.Unfolding.{module_up}
 use Rattle.reports.specs.Occurrences.{occurrence_lines}
 use Rattle.emh_base.specs.declared.ids.ModId.{ModId}
 use Rattle.emh_base.specs.declared.plain.Plain.{Plain}
-use Rattle.reports.proofs.Comes.{is-at}
+use Rattle.flatten_rules.proofs.Comes.{is-at}
 use Rattle.reports.proofs.Kept.{kept_more, kept_text, more_lines}
 use Rattle.reports.proofs.occurrences.push_occurrences.Goals as goal
 

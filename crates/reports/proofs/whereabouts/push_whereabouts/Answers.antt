@@ -2,7 +2,7 @@ use Rattle.std.proofs.Common.{◌≡◌, [], ◌++◌, ◌==◌, cond, ap, ◌�
 use Rattle.emh_base.specs.declared.ids.ModId.{ModId}
 use Rattle.emh_base.specs.declared.plain.Plain.{Plain}
 use Rattle.reports.specs.Where.{path_line, is_of}
-use Rattle.reports.proofs.Comes.{is-at}
+use Rattle.flatten_rules.proofs.Comes.{is-at}
 use Rattle.reports.proofs.Kept.{kept_more, kept_text, more_kept}
 use Rattle.reports.proofs.whereabouts.push_whereabouts.Goals as goal
 

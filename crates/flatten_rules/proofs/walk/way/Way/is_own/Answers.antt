@@ -1,4 +1,4 @@
-use Rattle.std.proofs.Common.{ap, length, ◌∙◌}
+use Rattle.std.proofs.Common.{ap, ◌∙◌}
 use Rattle.flatten_rules.specs.Way.{is_at}
 use Rattle.flatten_rules.specs.Domains.{is_own}
 use Rattle.flatten_rules.proofs.OwnRoots.{own-here}

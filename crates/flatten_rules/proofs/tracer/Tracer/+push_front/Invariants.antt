@@ -1,5 +1,0 @@
-use Rattle.std.proofs.Common.{length}
-use Rattle.flatten_rules.proofs.tracer.Tracer.+push_front.Given as goal
-
-abbrev pub decreases-push_front : goal.decreases-push_front
-decreases-push_front l = length l.path.now
