@@ -29,5 +29,8 @@ pub use laws::{
     first_words_are_known,
 };
 pub use lines::{LINE_LIMIT, Line, Script, ScriptFault, script};
+pub use look::{a_module, a_net, a_path, at_word};
+pub use put::{orient_word, status_word};
 pub use resolving::resolve;
+pub use sources::fits;
 pub use text::text_of;
