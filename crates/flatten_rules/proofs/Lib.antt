@@ -22,6 +22,7 @@ pub mod NoModules
 pub mod Deciding
 pub mod PathOrder
 pub mod Steps
+pub mod Paths
 pub mod Pending
 pub mod Left
 pub mod OwnRoots

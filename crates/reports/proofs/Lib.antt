@@ -1,3 +1,6 @@
 pub mod Kept
 pub mod Comes
 pub mod Wires
+pub mod Roots
+pub mod Counting
+pub mod WorkedBlock
