@@ -1,17 +1,24 @@
 -- The definitions tried on the worked example.
-use Rattle.std.specs.Prelude.{◌≡◌, ◌++◌, List, [], ◌∷◌, None, codes}
+use Rattle.std.specs.Prelude.{◌≡◌, ℕ, ◌++◌, List, [], ◌∷◌, None, codes}
+use Rattle.std.specs.List.{flat_map}
+use Rattle.std.specs.Fmt.{decimal}
 use Rattle.std.specs.FinMap.{FinMap, len, get}
 use Rattle.emh_base.specs.Path.{path_cmp}
 use Rattle.emh_base.specs.declared.ids.InstId.{InstId}
 use Rattle.emh_base.specs.declared.placement.Placement.{Placement}
 use Rattle.emh_base.specs.TwoLevel.{two_level}
 use Rattle.flatten_rules.specs.Domains.{NetBit, root_of}
+use Rattle.reports.specs.Line.{line}
 use Rattle.reports.specs.Block.{block_text}
 use Rattle.reports.specs.Pins.{pins_text}
 use Rattle.reports.specs.Counts.{count_line, counts_text}
 use Rattle.reports.specs.Occurrences.{occurrences_text}
 use Rattle.reports.specs.Modules.{modules_text}
 use Rattle.reports.specs.Net.{net_text}
+
+-- a net, and how many pins it has
+abbrev pub counted : List ℕ × ℕ → List ℕ
+counted net = line (codes "net" ∷ net.0 ∷ decimal net.1 ∷ [])
 
 -- the output of the first pair
 abbrev pub first_output : NetBit
@@ -43,4 +50,4 @@ pub record TwoLevelReports : Type 0 where
       → block_text two_level (record { 0 = 3 }) P
       ≡ codes "term i input\nterm o output\ninst p/u1 INV unplaced\ninst p/u2 INV unplaced\n"
       ++ (codes "inst q/u1 INV unplaced\ninst q/u2 INV unplaced\n"
-      ++ codes "net i 1\nnet o 1\nnet w 2\nnet p/m 2\nnet q/m 2\n")
+      ++ flat_map counted ((codes "i", 1) ∷ (codes "o", 1) ∷ (codes "w", 2) ∷ (codes "p/m", 2) ∷ (codes "q/m", 2) ∷ []))

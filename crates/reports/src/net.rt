@@ -26,10 +26,12 @@ pub fn push_net(
         ≡ out.old ++ net_text way.now.plain way.now.top (root_on way.now.path told)) }
     ensures err { OnErr result (take (length out.old) out.new ≡ out.old) }
 {
+    let plain = way.plain();
+    let top = way.top();
     let root = way.root_told(alloc, told)?;
     push_root_line(way, told, out)?;
-    push_members(alloc, way.plain(), way.top(), &root, out)?;
-    push_joined(alloc, way.plain(), way.top(), &root, out)
+    push_members(alloc, plain, top, &root, out)?;
+    push_joined(alloc, plain, top, &root, out)
 }
 
 fn push_root_line(way: &Way<'_>, told: WayRoot, out: &mut List<u8>) -> Result<(), NoMemory>
@@ -80,11 +82,19 @@ fn push_if_member(
         else [])) }
     ensures err { OnErr result (take (length out.old) out.new ≡ out.old) }
 {
-    if way.is_root(way.root(net.id, offset), root) {
+    if is_member(way, net, offset, root) {
         push_member(way, net, offset, out)
     } else {
         Ok(())
     }
+}
+
+/// Whether a bit of a net of the occurrence at the end of the way leads to a root.
+fn is_member(way: &Way<'_>, net: &PNet, offset: u16, root: &Root) -> bool
+    ensures { result ≡ is_same root.now
+        (root_up way.now.plain way.now.top (reverse way.now.path) net.now.id offset) }
+{
+    way.is_root(way.root(net.id, offset), root)
 }
 
 #[tactic(auto, using(crate::proofs::Kept::kept_more))]

@@ -1,14 +1,14 @@
 //! Look-ups of the words that tell a net bit.
 
-ghost use Rattle.std.specs.Prelude.{◌≡◌, ◌<◌, None, Some, MatchOption, IsTrue, IfOk, IfSome, Ok, option_copied};
-ghost use Rattle.flatten_rules.specs.Lookup.{inst_of};
+ghost use Rattle.std.specs.Prelude.{◌≡◌, None, Some, MatchOption, IsTrue, IfOk};
 ghost use Rattle.flatten_rules.specs.Sound.{IsAllowed};
 ghost use Rattle.flatten_rules.specs.Design.{IsGood};
 ghost use Rattle.edit_rules.specs.Readers.{is_module};
 ghost use Rattle.edit_rules.specs.Good.{IsGoodState};
 ghost use Rattle.edit_rules.specs.Spots.{module_at};
-ghost use Rattle.script_read.specs.Resolve.{Answers, on};
-ghost use Rattle.reports.specs.NetBit.{a_bit_at, an_inner, an_offset, inner_id, offset_in};
+ghost use Rattle.script_read.specs.Resolve.{Answers};
+ghost use Rattle.reports.specs.NetBit.{a_bit_at, an_offset, inner_id, offset_in};
+ghost use Rattle.reports.specs.inside.Found.{FindsBit};
 
 use edit_rules::{Facts, Judged};
 use emh_base::{ModId, Name, NetId, NoMemory, PModule, Path, Plain, Range, Rule, State};
@@ -50,8 +50,7 @@ pub fn a_bit_at(
     requires good { IsGoodState state.now }
     requires plain { way.now.plain ≡ state.now.plain }
     requires top { way.now.top ≡ state.now.top }
-    ensures { Answers (on (a_bit_at state.now 2 way.now.path name.now index)
-        (λ bit. Ok (bit.net, bit.offset))) result }
+    ensures { FindsBit way.now.path (a_bit_at state.now 2 way.now.path name.now index) result }
 {
     let holder = at_word(Rule::NoSuchOccurrence, WORD, inner_id(way.module()))?;
     let net = a_net(state, holder, WORD, name)?;

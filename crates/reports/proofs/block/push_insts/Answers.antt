@@ -4,6 +4,7 @@ use Rattle.emh_base.specs.declared.plain.Plain.{Plain}
 use Rattle.flatten_rules.specs.Lookup.{module_of}
 use Rattle.flatten_rules.specs.Unfolding.{Occurrence}
 use Rattle.flatten_rules.specs.Domains.{is_leaf}
+use Rattle.flatten_rules.specs.Way.{WayTo}
 use Rattle.reports.specs.Block.{inst_line}
 use Rattle.reports.proofs.Comes.{is-at}
 use Rattle.reports.proofs.Kept.{kept_more, kept_text, more_kept}
@@ -28,7 +29,8 @@ loop-walk-preserved c =
     let at = is-at c.loop-walk.walk after m c.in_ok-advance.field-0 c.in_ok-advance.ensures.next c.if-branch.true there in
     let found = ap (λ (P : Plain). module_of P m.id) (sym plain) ∙ at.found in
     let line : c.push_if_leaf.new.out ≡ c.loop-walk.out ++ cond (is_leaf (module_of M m.id)) (inst_line M top places (after.path, m.id)) [] =
-    rw c.way-way.ensures at c.in_ok-push_if_leaf.ensures.ok
+    c.in_ok-push_if_leaf.ensures.ok
+    ∙ ap (λ (w : WayTo). c.loop-walk.out ++ cond m.leaf (inst_line w.plain w.top places (w.path, m.id)) []) c.way-way.ensures
     ∙ ap (λ (P : Plain). c.loop-walk.out ++ cond m.leaf (inst_line P after.top places (after.path, m.id)) []) plain
     ∙ ap (λ (t : ModId). c.loop-walk.out ++ cond m.leaf (inst_line M t places (after.path, m.id)) []) is_top
     ∙ ap (λ leaf. c.loop-walk.out ++ cond leaf (inst_line M top places (after.path, m.id)) []) (sym (ap is_leaf found)) in
