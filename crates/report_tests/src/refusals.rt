@@ -1,7 +1,6 @@
 //! Reports whose words name nothing.
 use crate::asks::{Ask, Told, desk_of, tells};
 use Ask::{Net, Where};
-use Rule::{BitOutOfRange, NoSuchModule, NoSuchNet, NoSuchOccurrence};
 use Told::Text;
 use emh_base::{NoMemory, Object, Refusal, Rule};
 use reports::ReportFault;
@@ -30,32 +29,44 @@ const BUSES: Design = Design {
     ..TWO_LEVEL
 };
 
-/// The word of a report is refused by a rule.
-const fn refused(rule: Rule) -> Told {
-    Told::Fault(ReportFault::Rule(Refusal {
-        rule,
-        object: Object::Word(2),
-    }))
-}
+const NO_MODULE: Told = Told::Fault(ReportFault::Rule(Refusal {
+    rule: Rule::NoSuchModule,
+    object: Object::Word(2),
+}));
+
+const NO_OCCURRENCE: Told = Told::Fault(ReportFault::Rule(Refusal {
+    rule: Rule::NoSuchOccurrence,
+    object: Object::Word(2),
+}));
+
+const NO_NET: Told = Told::Fault(ReportFault::Rule(Refusal {
+    rule: Rule::NoSuchNet,
+    object: Object::Word(2),
+}));
+
+const OUT_OF_RANGE: Told = Told::Fault(ReportFault::Rule(Refusal {
+    rule: Rule::BitOutOfRange,
+    object: Object::Word(2),
+}));
 
 const WORDS: &[(Ask, Told)] = &[
-    (Where("zz"), refused(NoSuchModule)),
+    (Where("zz"), NO_MODULE),
     // the path comes first, and a leaf's nets aren't told
-    (Net(&["x"], "zz", Some(9)), refused(NoSuchOccurrence)),
-    (Net(&["p", "x"], "a", None), refused(NoSuchOccurrence)),
-    (Net(&["p", "m"], "a", None), refused(NoSuchOccurrence)),
-    (Net(&["p", "u1"], "A", None), refused(NoSuchOccurrence)),
+    (Net(&["x"], "zz", Some(9)), NO_OCCURRENCE),
+    (Net(&["p", "x"], "a", None), NO_OCCURRENCE),
+    (Net(&["p", "m"], "a", None), NO_OCCURRENCE),
+    (Net(&["p", "u1"], "A", None), NO_OCCURRENCE),
     // then the net, which an instance isn't
-    (Net(&[], "zz", Some(9)), refused(NoSuchNet)),
-    (Net(&[], "p", None), refused(NoSuchNet)),
-    (Net(&["p"], "w", None), refused(NoSuchNet)),
+    (Net(&[], "zz", Some(9)), NO_NET),
+    (Net(&[], "p", None), NO_NET),
+    (Net(&["p"], "w", None), NO_NET),
     // then the index
-    (Net(&[], "w", Some(0)), refused(BitOutOfRange)),
-    (Net(&[], "down", None), refused(BitOutOfRange)),
-    (Net(&[], "down", Some(4)), refused(BitOutOfRange)),
-    (Net(&[], "up", Some(1)), refused(BitOutOfRange)),
-    (Net(&[], "up", Some(6)), refused(BitOutOfRange)),
-    (Net(&[], "up", Some(4294967295)), refused(BitOutOfRange)),
+    (Net(&[], "w", Some(0)), OUT_OF_RANGE),
+    (Net(&[], "down", None), OUT_OF_RANGE),
+    (Net(&[], "down", Some(4)), OUT_OF_RANGE),
+    (Net(&[], "up", Some(1)), OUT_OF_RANGE),
+    (Net(&[], "up", Some(6)), OUT_OF_RANGE),
+    (Net(&[], "up", Some(4294967295)), OUT_OF_RANGE),
     (
         Net(&[], "down", Some(3)),
         Text("root down[3]\nmember down[3]\n"),

@@ -1,16 +1,12 @@
 -- Pins that are counted by the net bits that they lead to.
-use Rattle.std.proofs.Common.{◌≡◌, ℕ, ◌+◌, ◌==◌, nat_lt, Bool, true, false, cond, ◌&&◌, List, [], ◌∷◌, length, Option, Some, None, unwrap_or, refl, sym, ap, ◌∙◌, arith, Ordering, Less, Equal, Greater, is_eq}
-use Rattle.std.specs.List.{filter}
+use Rattle.std.proofs.Common.{◌≡◌, ℕ, ◌+◌, ◌==◌, nat_lt, Bool, true, false, cond, ◌&&◌, List, Some, unwrap_or, refl, sym, ap, ◌∙◌, arith, Ordering, Less, Equal, Greater, is_eq}
 use Rattle.std.specs.Map.{lookup}
 use Rattle.std.specs.Ordering.{nat_cmp, ordering_then}
 use Rattle.std.proofs.lemmas.Bool.Decides.{nat_tests}
 use Rattle.emh_base.specs.Path.{path_cmp}
-use Rattle.emh_base.specs.declared.root.Root.{Root}
-use Rattle.emh_base.specs.declared.root.Root.TheVariants.{Own}
-use Rattle.flatten_rules.specs.Domains.{Pin}
-use Rattle.reports.specs.Net.{is_same, is_led_to}
+use Rattle.reports.specs.Net.{is_same}
 use Rattle.reports.specs.inside.PinCounts.{Key, key_cmp, root_at, count_at, CountsPin}
-use Rattle.reports.proofs.Roots.{same-root, length-kept}
+use Rattle.reports.proofs.Roots.{same-root}
 
 then-eq : (a b : Ordering) → is_eq (ordering_then a b) ≡ is_eq a && is_eq b
 then-eq Less b = refl
@@ -52,9 +48,3 @@ counts-one old new key v more updates at =
     ap (λ found. unwrap_or found 0) (updates at)
     ∙ ap (λ b. unwrap_or (cond b (Some v) (lookup (λ k. is_eq (key_cmp at k)) old)) 0) (same-key key at)
     ∙ by-key (is_same (root_at at) (root_at key)) old key at v refl more
-
--- what is counted so far, with the pins that are still to come, and one pin more
-pub pins-more : (leads : Pin → Bool) (old new all : ℕ) (pin : Pin) (before rest : List Pin) → before ≡ pin ∷ rest → new ≡ old + cond (leads pin) 1 0 → old + length (filter leads before) ≡ all → new + length (filter leads rest) ≡ all
-pins-more leads old new all pin before rest next more sum =
-    let here : length (filter leads before) ≡ cond (leads pin) 1 0 + length (filter leads rest) = ap (λ ps. length (filter leads ps)) next ∙ length-kept (leads pin) pin (filter leads rest) in
-    omega (arith, here, more, sum)

@@ -1,38 +1,16 @@
--- Look-ups of words, and what a report answers by them.
-use Rattle.std.proofs.Common.{◌≡◌, ℕ, Bool, true, false, cond, List, [], ◌∷◌, ◌++◌, take, length, reverse, Option, Some, None, is_some, IsTrue, Result, Ok, Err, refl, sym, ap, ◌∙◌, subst, arith}
-use Rattle.std.proofs.lemmas.List.{take_all}
+-- What look-ups of words find.
+use Rattle.std.proofs.Common.{◌≡◌, ℕ, Bool, true, false, cond, List, [], ◌∷◌, ◌++◌, Option, Some, None, is_some, IsTrue, Ok, refl, sym, ap, ◌∙◌}
 use Rattle.emh_base.specs.declared.ids.ModId.{ModId}
 use Rattle.emh_base.specs.declared.ids.InstId.{InstId}
 use Rattle.emh_base.specs.declared.plain.PModule.{PModule}
 use Rattle.emh_base.specs.declared.plain.Plain.{Plain}
 use Rattle.emh_base.specs.declared.rule.Rule.{Rule}
-use Rattle.emh_base.specs.declared.rule.Refusal.{Refusal}
 use Rattle.flatten_rules.specs.Lookup.{module_of}
 use Rattle.flatten_rules.specs.Unfolding.{module_up}
-use Rattle.flatten_rules.specs.Domains.{NetBit}
 use Rattle.flatten_rules.proofs.Walks.{up-own}
 use Rattle.edit_rules.specs.Readers.{is_module}
-use Rattle.edit_rules.specs.declared.judged.Judged.{Judged}
-use Rattle.edit_rules.specs.declared.judged.Judged.TheVariants as judged
-use Rattle.script_read.specs.Resolve.{Looked, Answers, at_word}
+use Rattle.script_read.specs.Resolve.{at_word}
 use Rattle.reports.specs.NetBit.{inner_id}
-use Rattle.reports.specs.Report.{PutsReport}
-use Rattle.reports.specs.inside.Fault.{fault_of}
-use Rattle.reports.specs.inside.Found.{FindsBit}
-
--- a word that is refused refuses the report
-pub refuses : {A : Type 0} (wanted : Looked A) (next : Looked A → Option (Looked (List ℕ))) (why : Judged) (old : List ℕ) → ((refusal : Refusal) → next (Err refusal) ≡ Some (Err refusal)) → Answers wanted (Err why) → PutsReport (next wanted) old (Err (fault_of why)) old
-refuses wanted next (judged.Rule refusal) old goes is = (ap next is ∙ goes refusal, refl)
-refuses wanted next judged.NoMemory old goes is = take_all (length old) old (omega arith)
-
--- and the net bit
-pub refuses-bit : {A : Type 0} (path : List InstId) (wanted : Looked A) (next : Looked A → Looked NetBit) (why : Judged) → ((refusal : Refusal) → next (Err refusal) ≡ Err refusal) → Answers wanted (Err why) → FindsBit path (next wanted) (Err why)
-refuses-bit path wanted next (judged.Rule refusal) goes is = ap next is ∙ goes refusal
-refuses-bit path wanted next judged.NoMemory goes is = tt
-
-pub bit-refuses : (path : List InstId) (wanted : Looked NetBit) (next : Looked NetBit → Option (Looked (List ℕ))) (why : Judged) (old : List ℕ) → ((refusal : Refusal) → next (Err refusal) ≡ Some (Err refusal)) → FindsBit path wanted (Err why) → PutsReport (next wanted) old (Err (fault_of why)) old
-bit-refuses path wanted next (judged.Rule refusal) old goes is = (ap next is ∙ goes refusal, refl)
-bit-refuses path wanted next judged.NoMemory old goes is = take_all (length old) old (omega arith)
 
 -- what a word names is what was found
 pub named-found : {A : Type 0} (rule : Rule) (place : ℕ) (found : Option A) (a : A) → at_word rule place found ≡ Ok a → found ≡ Some a

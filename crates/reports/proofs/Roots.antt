@@ -1,6 +1,5 @@
--- Roots that are one, and the pins that lead to them.
-use Rattle.std.proofs.Common.{◌≡◌, ℕ, ◌+◌, Bool, true, false, cond, List, [], ◌∷◌, length, ◌↔◌, IsTrue, Option, Some, None, refl, sym, ap, ◌∙◌, arith, true≢false}
-use Rattle.std.specs.List.{filter}
+-- Roots that are one.
+use Rattle.std.proofs.Common.{◌≡◌, Bool, true, false, ◌↔◌, IsTrue, refl, sym, ap, ◌∙◌, true≢false}
 use Rattle.emh_base.specs.declared.root.Root.{Root}
 use Rattle.emh_base.specs.declared.root.Root.TheVariants.{Tie0, Tie1, Own}
 use Rattle.flatten_rules.proofs.BlockNets.{root-own, own-root}
@@ -28,8 +27,3 @@ not-so false never = refl
 pub tells-same : (result : Bool) (told root : Root) → IsTrue result ↔ (told ≡ root) → result ≡ is_same root told
 tells-same true told root tells = sym (ap (is_same root) (tells.0 refl) ∙ same-itself root)
 tells-same false told root tells = not-so (is_same root told) (λ same. true≢false (sym (tells.1 (same-root root told same))))
-
--- how many of a list pass a test, item by item
-pub length-kept : {X : Type 0} (passes : Bool) (x : X) (rest : List X) → length (cond passes (x ∷ rest) rest) ≡ cond passes 1 0 + length rest
-length-kept true x rest = omega arith
-length-kept false x rest = omega arith

@@ -1,5 +1,5 @@
 -- The ports of the module at the top.
-use Rattle.std.proofs.Common.{◌≡◌, ℕ, ◌==◌, List, [], reverse, Some, refl, sym, ap, ◌∙◌}
+use Rattle.std.proofs.Common.{◌≡◌, [], reverse, Some, refl, sym, ap, ◌∙◌}
 use Rattle.std.specs.List.{flat_map, range_with_len}
 use Rattle.emh_base.specs.declared.ids.ModId.{ModId}
 use Rattle.emh_base.specs.declared.ids.NetId.{NetId}

@@ -1,4 +1,3 @@
-use Rattle.std.proofs.Common.{ap, sym, ◌∙◌}
 use Rattle.flatten_rules.specs.Way.{root_on}
 use Rattle.reports.proofs.Roots.{tells-same}
 use Rattle.reports.proofs.net.leads_to.Goals as goal
