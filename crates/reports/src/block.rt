@@ -25,8 +25,8 @@ use script_read::{orient_word, status_word};
 use std::alloc::Global;
 
 /// Puts the report of the block last: `term NETBIT DIR` for each bit of each port of the top, `inst PATH CELL` with
-/// `unplaced` or with `X Y ORIENT STATUS` for each leaf occurrence, and `net NETBIT N` for each block net, where N is how
-/// many pins lead to it. After want of memory some of it may stand there.
+/// `unplaced` or with `X Y ORIENT STATUS` for each leaf occurrence, and `net NETBIT N` for each block net, where N is
+/// how many pins lead to it. After want of memory some of it may stand there.
 pub fn push_block(
     alloc: Global,
     plain: &Plain,
@@ -252,7 +252,8 @@ fn push_if_own(
     counted: &PinCounts,
     out: &mut List<u8>,
 ) -> Result<(), NoMemory>
-    requires there { net_up way.now.plain way.now.top (reverse way.now.path) net.now.id ≡ Some net.now }
+    requires there { net_up way.now.plain way.now.top (reverse way.now.path) net.now.id
+        ≡ Some net.now }
     requires counted { (key : Key) → count_at counted.now.counts.entries key
         ≡ length (pins_led_to way.now.plain way.now.top (root_at key)) }
     ensures ok { OnOk result (out.new ≡ out.old

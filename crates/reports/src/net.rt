@@ -12,8 +12,8 @@ use flatten_rules::{BitWalk, PinWalk, Way, WayRoot};
 use std::alloc::Global;
 
 /// Puts the report of a net last, by what a net bit of the occurrence at the end of a way leads to: `root ROOT`, then
-/// `member NETBIT` for each net bit that leads to the same and `pin PIN` for each such pin of a leaf, in the order of the
-/// unfolding. After want of memory some of it may stand there.
+/// `member NETBIT` for each net bit that leads to the same and `pin PIN` for each such pin of a leaf, in the order of
+/// the unfolding. After want of memory some of it may stand there.
 pub fn push_net(
     alloc: Global,
     way: &Way<'_>,
@@ -141,7 +141,8 @@ fn push_if_joined(
     ensures ok { OnOk result (out.new ≡ out.old
         ++ (if is_led_to root.now
         (pin_root way.now.plain way.now.top (reverse way.now.path) net.now.id offset)
-        then line (codes "pin" ∷ text_of way.now.plain way.now.top (PinAt way.now.path net.now.id offset) ∷ [])
+        then line (codes "pin" ∷ text_of way.now.plain way.now.top
+        (PinAt way.now.path net.now.id offset) ∷ [])
         else [])) }
     ensures err { OnErr result (take (length out.old) out.new ≡ out.old) }
 {
@@ -172,7 +173,8 @@ fn push_joined_pin(
 ) -> Result<(), NoMemory>
     requires { net_up way.now.plain way.now.top (reverse way.now.path) net.now.id ≡ Some net.now }
     ensures ok { OnOk result (out.new ≡ out.old
-        ++ line (codes "pin" ∷ text_of way.now.plain way.now.top (PinAt way.now.path net.now.id offset) ∷ [])) }
+        ++ line (codes "pin" ∷ text_of way.now.plain way.now.top
+        (PinAt way.now.path net.now.id offset) ∷ [])) }
     ensures err { OnErr result (take (length out.old) out.new ≡ out.old) }
 {
     out.extend(b"pin ")?;

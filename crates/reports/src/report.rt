@@ -68,7 +68,8 @@ fn push_net_report(
     out: &mut List<u8>,
 ) -> Result<(), ReportFault>
     requires { IsGoodState state.now }
-    ensures { PutsReport (report_of state.now (Kind.Net path.now net.now index)) out.old result out.new }
+    ensures { PutsReport (report_of state.now (Kind.Net path.now net.now index))
+        out.old result out.new }
 {
     let path = a_path(alloc, state, WORD, path)?;
     match way_to(alloc, &state.plain, state.top, &path)? {
