@@ -29,7 +29,7 @@ impl Model for Desk {
     ghost use Rattle.desk.specs.Desk.{DeskView, IsClosed};
     ghost use Rattle.desk.specs.inside.Room.{AreGood, HasRoom, IsWithin, more};
     ghost use Rattle.std.specs.Coded.{codes};
-    ghost use Rattle.desk.specs.inside.Code.{places_code};
+    ghost use Rattle.emh_base.specs.Places.{places_code};
 
     ghost Value = { DeskView };
 

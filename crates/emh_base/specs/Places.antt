@@ -1,6 +1,6 @@
 -- Placements by path: a finite map, and how its keys and values are told apart.
 use Rattle.std.specs.Prelude.{◌≡◌, refl, ℕ, ℤ, Bool, true, false, List}
-use Rattle.std.specs.FinMap.{FinMap}
+use Rattle.std.specs.FinMap.{FinMap, code}
 use Rattle.std.specs.Coded.{Coded, code_by, coded×, coded_ℕ, coded_ℤ, coded_bool, coded_list}
 use Rattle.emh_base.specs.declared.ids.InstId.{InstId}
 use Rattle.emh_base.specs.declared.placement.Orient.{Orient}
@@ -72,3 +72,7 @@ placement_code =
     code_by (ℤ × (ℤ × (Orient × Status))) (coded× coded_ℤ (coded× coded_ℤ (coded× orient_code status_code)))
     (λ (place : Placement). (place.x, (place.y, (place.orient, place.status))))
     (λ p. record { x = p.0; y = p.1.0; orient = p.1.1.0; status = p.1.1.1 }) (λ _. refl)
+
+-- so placements by path are told apart
+abbrev pub places_code : Coded PlacesByPath
+places_code = code path_code placement_code

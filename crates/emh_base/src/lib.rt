@@ -38,5 +38,5 @@ pub use root::{PinRef, Root, RootKey};
 pub use rule::{Object, Refusal, Rule};
 pub use spelling::{SpellFault, unspell};
 pub use state::{Fanout, Settings, State};
-pub use text::{push_index, push_number, push_spelled};
+pub use text::{push_index, push_number, push_spelled, push_spelled_bytes};
 pub use try_copy::TryCopy;

@@ -21,8 +21,8 @@ pub fn push_spelled(out: &mut List<u8>, name: &Name) -> Result<(), NoMemory>
     pushed
 }
 
-/// After want of memory a part of the text may stand there.
-fn push_spelled_bytes(out: &mut List<u8>, name: &[u8]) -> Result<(), NoMemory>
+/// Puts the spelled text of the bytes of a name last. After want of memory a part of the text may stand there.
+pub fn push_spelled_bytes(out: &mut List<u8>, name: &[u8]) -> Result<(), NoMemory>
     ensures ok { OnOk result (out.new ≡ out.old ++ spell name.now) }
     ensures err { OnErr result (take (length out.old) out.new ≡ out.old) }
 {

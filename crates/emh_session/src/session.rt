@@ -29,7 +29,7 @@ impl Model for Session {
     ghost use Rattle.std.specs.Coded.{codes};
     ghost use Rattle.session_rules.specs.Session.{PlainSession};
     ghost use Rattle.desk.specs.Desk.{IsClosed};
-    ghost use Rattle.desk.specs.inside.Code.{places_code};
+    ghost use Rattle.emh_base.specs.Places.{places_code};
 
     ghost Value = { PlainSession };
 

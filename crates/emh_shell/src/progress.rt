@@ -25,7 +25,7 @@ impl Model for Progress {
     ghost use Rattle.std.specs.Prelude.{◌≡◌, ◌≤◌, length, IfSome};
     ghost use Rattle.std.specs.Coded.{codes};
     ghost use Rattle.flatten_rules.specs.Sound.{IsSound};
-    ghost use Rattle.desk.specs.inside.Code.{places_code};
+    ghost use Rattle.emh_base.specs.Places.{places_code};
     ghost use Rattle.emh_shell.specs.Progress as seen;
 
     ghost Value = { seen.Progress };

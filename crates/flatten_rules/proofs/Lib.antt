@@ -19,6 +19,7 @@ pub mod NoModules
 pub mod Deciding
 pub mod PathOrder
 pub mod Steps
+pub mod Paths
 pub mod Pending
 pub mod Comes
 pub mod Left

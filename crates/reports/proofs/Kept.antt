@@ -96,3 +96,13 @@ more_kept f p old new all x before rest text next line =
     ∙ ap (λ t. old ++ t) (kept-step f (p x) x (filter p rest))
     ∙ ap (λ xs. old ++ flat_map f (filter p xs)) (sym next)
     ∙ text
+
+unmapped : (xs : List ℕ) → map (λ x. x) xs ≡ xs
+unmapped [] = refl
+unmapped (x ∷ xs) = ap (λ ys. x ∷ ys) (unmapped xs)
+
+-- numbers in order, and one more
+pub offsets_more : (f : ℕ → List ℕ) (start old new : List ℕ) (k : ℕ) → old ≡ start ++ flat_map f (range_with_len 0 k) → new ≡ old ++ f k → new ≡ start ++ flat_map f (range_with_len 0 (k + 1))
+offsets_more f start old new k before more =
+    numbers_more f (λ x. x) start old new k (before ∙ ap (λ xs. start ++ flat_map f xs) (sym (unmapped (range_with_len 0 k)))) more
+    ∙ ap (λ xs. start ++ flat_map f xs) (unmapped (range_with_len 0 (k + 1)))

@@ -1,8 +1,12 @@
 pub mod Line
 pub mod Pins
+pub mod Block
 pub mod Counts
 pub mod Occurrences
 pub mod Modules
+pub mod Net
+pub mod NetBit
 pub mod Where
+pub mod Report
 pub mod Worked
 pub mod inside

@@ -1,1 +1,4 @@
 pub mod Spaced
+pub mod Fault
+pub mod PinCounts
+pub mod Found

@@ -82,7 +82,7 @@ fn count_pins(alloc: Global, plain: &Plain, top: ModId) -> Result<u64, NoMemory>
 }
 
 /// The next number. A count past 64 bits is told as want of memory: no walk comes so far.
-fn one_more(count: u64) -> Result<u64, NoMemory>
+pub fn one_more(count: u64) -> Result<u64, NoMemory>
     ensures { IfOk result (λ n. n ≡ count + 1) }
 {
     match count.checked_add(1) {

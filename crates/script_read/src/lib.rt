@@ -29,7 +29,9 @@ pub use laws::{
     first_words_are_known,
 };
 pub use lines::{LINE_LIMIT, Line, Script, ScriptFault, script};
+pub use look::{a_module, a_net, a_path, at_word};
 pub use number::number_of;
-pub use put::put_path;
+pub use put::{orient_word, put_path, status_word};
 pub use resolving::resolve;
+pub use sources::fits;
 pub use text::text_of;

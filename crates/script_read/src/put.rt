@@ -48,31 +48,39 @@ pub fn put_dir(line: &mut List<u8>, dir: Dir) -> Result<(), NoMemory>
 pub fn put_orient(line: &mut List<u8>, orient: Orient) -> Result<(), NoMemory>
     ensures { OnOk result (line.new ≡ line.old ++ 32 ∷ orient_text orient) }
 {
-    put_bytes(
-        line,
-        match orient {
-            Orient::R0 => b"R0".as_slice(),
-            Orient::R90 => b"R90".as_slice(),
-            Orient::R180 => b"R180".as_slice(),
-            Orient::R270 => b"R270".as_slice(),
-            Orient::MX => b"MX".as_slice(),
-            Orient::MY => b"MY".as_slice(),
-            Orient::MXR90 => b"MXR90".as_slice(),
-            Orient::MYR90 => b"MYR90".as_slice(),
-        },
-    )
+    put_bytes(line, orient_word(orient))
+}
+
+/// The word for how a block instance is turned.
+pub fn orient_word(orient: Orient) -> &'static [u8]
+    ensures { result.now ≡ orient_text orient }
+{
+    match orient {
+        Orient::R0 => b"R0",
+        Orient::R90 => b"R90",
+        Orient::R180 => b"R180",
+        Orient::R270 => b"R270",
+        Orient::MX => b"MX",
+        Orient::MY => b"MY",
+        Orient::MXR90 => b"MXR90",
+        Orient::MYR90 => b"MYR90",
+    }
 }
 
 pub fn put_status(line: &mut List<u8>, status: Status) -> Result<(), NoMemory>
     ensures { OnOk result (line.new ≡ line.old ++ 32 ∷ status_text status) }
 {
-    put_bytes(
-        line,
-        match status {
-            Status::Placed => b"Placed".as_slice(),
-            Status::Fixed => b"Fixed".as_slice(),
-        },
-    )
+    put_bytes(line, status_word(status))
+}
+
+/// The word for whether a placed block instance may be moved.
+pub fn status_word(status: Status) -> &'static [u8]
+    ensures { result.now ≡ status_text status }
+{
+    match status {
+        Status::Placed => b"Placed",
+        Status::Fixed => b"Fixed",
+    }
 }
 
 /// A range behind a space, or nothing.

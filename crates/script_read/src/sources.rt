@@ -161,7 +161,7 @@ fn width(range: Range) -> u32
 }
 
 /// Whether a select is one index of a net's range, or some that go the way of it.
-fn fits(range: Range, select: Range) -> bool
+pub fn fits(range: Range, select: Range) -> bool
     ensures { result ≡ fits range select }
 {
     goes_up(range, select) || goes_down(range, select)

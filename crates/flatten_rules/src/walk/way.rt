@@ -1,4 +1,4 @@
-ghost use Rattle.std.specs.Prelude.{◌≡◌, ℕ, ◌<◌, ◌≤◌, ◌-◌, [], ◌∷◌, ◌++◌, length, take, reverse, slice_get, Some, option_map, IsSome, IsSomeAnd, IfSome, IfOk, OnOk, OnErr};
+ghost use Rattle.std.specs.Prelude.{◌≡◌, ℕ, ◌<◌, ◌≤◌, ◌-◌, [], ◌∷◌, ◌++◌, length, take, reverse, slice_get, Some, option_map, IsSome, IsSomeAnd, IsTrue, IfSome, IfOk, OnOk, OnErr, ◌↔◌};
 ghost use Rattle.emh_base.specs.Text.{spell, index_text, front_text, path_text, bit_text, pin_text};
 ghost use Rattle.flatten_rules.specs.Lookup.{module_of};
 ghost use Rattle.flatten_rules.specs.Unfolding.{module_up, inst_up};
@@ -116,6 +116,13 @@ impl<'a> Way<'a> {
         ensures sound { IsSound self.now.plain }
     {
         self.plain
+    }
+
+    /// The module at the top, by its id.
+    pub fn top(&self) -> ModId
+        ensures { result ≡ self.now.top }
+    {
+        self.top
     }
 
     /// How many instances are on the way.
@@ -360,6 +367,40 @@ impl<'a> Way<'a> {
             WayRoot::Own { depth, net, offset } => {
                 Ok(Root::Own(self.path_to(alloc, depth)?, net, offset))
             }
+        }
+    }
+
+    /// Whether the first so many instances on the way are that path.
+    fn has_path_at(&self, depth: usize, path: &Path) -> bool
+        requires { depth ≤ length self.now.path }
+        ensures { IsTrue result ↔ (take depth self.now.path ≡ path.now) }
+    {
+        let steps = path.steps();
+        if steps.len() != depth {
+            return false;
+        }
+        for at in 0..depth {
+            if self.steps[at].inst.id.0 != steps[at].0 {
+                return false;
+            }
+        }
+        true
+    }
+
+    /// Whether what a net's bit is told to lead to is that root. It takes no memory.
+    pub fn is_root(&self, told: WayRoot, root: &Root) -> bool
+        requires { IsOn self.now.path told }
+        ensures { IsTrue result ↔ (root_on self.now.path told ≡ root.now) }
+    {
+        match told {
+            WayRoot::Tie0 => matches!(root, Root::Tie0),
+            WayRoot::Tie1 => matches!(root, Root::Tie1),
+            WayRoot::Own { depth, net, offset } => match root {
+                Root::Own(path, other, at) => {
+                    net.0 == other.0 && offset == *at && self.has_path_at(depth, path)
+                }
+                Root::Tie0 | Root::Tie1 => false,
+            },
         }
     }
 
