@@ -1,5 +1,5 @@
 -- The words of a command line: `[--budget N] SCRIPT`, as clap reads the words of a simple command.
-use Rattle.std.specs.Prelude.{ℕ, nat_le, List, [], ◌∷◌, length, Option, Some, None, option_map, option_and_then, codes, if◌then◌else◌}
+use Rattle.std.specs.Prelude.{ℕ, nat_le, true, List, [], ◌∷◌, length, Option, Some, None, option_map, option_and_then, codes, if◌then◌else◌}
 use Rattle.clap.specs.Words.{App, Row, Rule, fault_of, first_of, matches_of, new_app, new_rule, with_rule}
 use Rattle.clap.specs.Kinds.{Kinds}
 use Rattle.clap.specs.declared.builder.action.ArgAction.TheVariants.{Set}
@@ -25,7 +25,7 @@ budget_of text = if nat_le (length text) 6 then option_and_then within_limit (nu
 
 -- without an option the budget is 1,000
 abbrev pub given : Option (List ℕ) → Option (List ℕ) → Option Asked
-given None budget = None
+given None text = None
 given (Some script) None = Some (record { budget = 1000; script = script })
 given (Some script) (Some text) = option_map (λ budget. record { budget = budget; script = script }) (budget_of text)
 

@@ -4,6 +4,7 @@ pub mod Starting
 pub mod Completing
 pub mod Giving
 pub mod OneReply
+pub mod Answering
 pub mod OneAnswer
 pub mod OneStep
 pub mod Once

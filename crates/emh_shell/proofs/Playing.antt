@@ -1,11 +1,12 @@
 use Rattle.std.proofs.Common.{◌≡◌, ℕ, ◌+◌, ◌<◌, ◌≤◌, List, [], ◌∷◌, ◌++◌, take, drop, length, get_or, Some, inl, inr, refl, sym, ap, subst, ◌∙◌, append_assoc, append-nil, add-one, drop-cons, take-add, if◌then◌else◌, suc, Bool, true, false, arith, lit<, Ok, Err}
 use Rattle.std.specs.Prelude.{slice_get}
-use Rattle.std.proofs.lemmas.List.{take_all}
+use Rattle.std.proofs.lemmas.List.{take_all, length-map}
 use Rattle.std.proofs.lemmas.Option.{slice_get-get_or}
 use Rattle.emh_io.specs.Put.{gains}
 use Rattle.script_read.specs.declared.lines.Line.{Line}
-use Rattle.emh_shell.specs.Progress.{Progress}
-use Rattle.emh_shell.specs.Answers.{Watched}
+use Rattle.emh_shell.specs.Progress.{Progress, at_first}
+use Rattle.session_rules.specs.Take.{Wants}
+use Rattle.emh_shell.specs.Answers.{Watched, watched}
 use Rattle.emh_shell.specs.declared.fault.Halt.{Halt}
 use Rattle.emh_shell.specs.declared.fault.Halt.TheVariants.{Fetch, Store, Put, NoMemory}
 use Rattle.emh_shell.specs.Play.{Point, start, Goes, Leads, Reads}
@@ -40,6 +41,10 @@ Standing-start W budget a x lines stand fresh = record {
   shelf = (refl, refl);
   sink = refl;
 }
+
+-- as many observers as have names
+pub at-begin : {X : Type 0} (name : X → List ℕ) (want : X → Wants) (observers : List X) (budget k : ℕ) → k ≡ length observers → at_first budget k ≡ at_first budget (length (watched name want observers).names)
+at-begin name want observers budget k is = ap (at_first budget) (is ∙ sym (length-map observers name))
 
 -- one more line
 Leads-more : (W : Watched) (p : Point) (lines : List Line) (q : Point) (line : Line) (r : Point) → Leads W p lines q → Goes W q line r → Leads W p (lines ++ line ∷ []) r

@@ -1,5 +1,5 @@
 -- What a rule's refusal is about, in print. This project's own.
-use Rattle.std.specs.Prelude.{ℕ, List, [], ◌++◌, Option, Some, None, option_map, option_and_then, slice_index_or, codes}
+use Rattle.std.specs.Prelude.{ℕ, List, [], ◌++◌, Option, Some, None, option_map, option_and_then, slice_get, unwrap_or, codes}
 use Rattle.std.specs.Fmt.{decimal}
 use Rattle.emh_base.specs.Text.{spell, path_text}
 use Rattle.emh_base.specs.Rule.{rule_code}
@@ -57,7 +57,7 @@ number_of _ = 0
 
 -- the word at a place of a line, counted from 0
 abbrev pub word_at : Line → ℕ → List ℕ
-word_at line k = slice_index_or line.words k []
+word_at line k = unwrap_or (slice_get line.words k) []
 
 -- the object of a line's refusal, by the names that ids have then
 abbrev pub object_text : Plain → Line → Object → List ℕ

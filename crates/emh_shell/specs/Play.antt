@@ -1,5 +1,5 @@
 -- The plain session of a script over files.
-use Rattle.std.specs.Prelude.{◌≡◌, ℕ, ◌≤◌, List, [], ◌∷◌, ◌++◌, length, take, slice_get, Option, Some, Result, Ok, Err, ◌⊎◌, if◌then◌else◌}
+use Rattle.std.specs.Prelude.{◌≡◌, ℕ, ◌≤◌, List, [], ◌∷◌, ◌++◌, length, take, slice_get, Option, Some, None, Result, Ok, Err, ◌⊎◌, if◌then◌else◌}
 use Rattle.emh_io.specs.Files.{Files}
 use Rattle.emh_io.specs.declared.shelf.FetchFault.TheVariants.{TooLong}
 use Rattle.script_read.specs.declared.command.Command.{Command}

@@ -14,10 +14,13 @@ use Rattle.emh_shell.specs.Printing.{ok_line}
 use Rattle.emh_shell.specs.Answers.{Watched, Answer, Refuses, Accepts}
 use Rattle.emh_shell.specs.Objects.{rule_line}
 
+abbrev pub mark_word : Bool → List ℕ
+mark_word enabled = if enabled then codes "on" else codes "off"
+
 -- `observer NAME on`, or off
 abbrev pub observer_line : List ℕ × Bool → List ℕ
 observer_line marked =
-    line (codes "observer" ∷ spell marked.0 ∷ (if marked.1 then codes "on" else codes "off") ∷ [])
+    line (codes "observer" ∷ spell marked.0 ∷ mark_word marked.1 ∷ [])
 
 abbrev pub observer_lines : List (List ℕ) → List Bool → List ℕ
 observer_lines names marks = flat_map observer_line (zip names marks)

@@ -1,5 +1,5 @@
 //! Lines that are about the open session.
-ghost use Rattle.std.specs.Prelude.{◌≡◌, IfOk, IsTrue, OnOk, length, map};
+ghost use Rattle.std.specs.Prelude.{◌≡◌, ◌≤◌, IfOk, IsTrue, length};
 ghost use Rattle.emh_shell.specs.Answers.{watched, no_design_line, Answered};
 ghost use Rattle.emh_shell.specs.Steps.{first_word, asks_session, SessionAnswers};
 ghost use Rattle.emh_shell.specs.inside.Telling.{Tells};
@@ -41,21 +41,25 @@ pub fn answer(
 ) -> Result<List<u8>, NoMemory>
     requires asks { IsTrue (asks_session line.now.command) }
     requires watched { length watch.now ≡ progress.old.watchers }
+    requires few { length watch.now ≤ 64 }
     ensures answers { let W = watched (λ b. called b) (λ b. wants b) watch.now in
-        OnOk result (λ said. Answered line.now.number (first_word line.now)
+        IfOk result (λ said. Answered line.now.number (first_word line.now)
         (SessionAnswers W line.now.command line.now) progress.old said progress.new) }
     ensures watchers { progress.new.watchers ≡ progress.old.watchers }
 {
-    let told = match &mut progress.session {
-        None => Told::Refused(no_design_line(alloc, line)?),
-        Some(session) => answer_in(alloc, line, session, watch)?,
-    };
-    match told {
-        Told::Refused(text) => {
+    match &mut progress.session {
+        None => {
+            let text = no_design_line(alloc, line)?;
             progress.has_refused = true;
             Ok(text)
         }
-        Told::Accepted(text) => Ok(text),
+        Some(session) => match answer_in(alloc, line, session, watch)? {
+            Told::Refused(text) => {
+                progress.has_refused = true;
+                Ok(text)
+            }
+            Told::Accepted(text) => Ok(text),
+        },
     }
 }
 
@@ -68,6 +72,7 @@ fn answer_in(
 ) -> Result<Told, NoMemory>
     requires asks { IsTrue (asks_session line.now.command) }
     requires watched { length watch.now ≡ length session.old.enabled }
+    requires few { length watch.now ≤ 64 }
     ensures tells { let W = watched (λ b. called b) (λ b. wants b) watch.now in
         IfOk result (λ told. Tells (SessionAnswers W line.now.command line.now)
         session.old told session.new) }

@@ -31,11 +31,12 @@ pub fn edit(
         session.old told session.new) }
     ensures marks { session.new.enabled ≡ session.old.enabled }
 {
-    match resolve(alloc, session.desk(), &line.command) {
+    let state = session.desk().state();
+    match resolve(alloc, state, &line.command) {
         Ok(edit) => command(alloc, line, edit, session, watch),
         Err(Judged::Rule(refusal)) => {
-            let plain = &session.desk().state().plain;
-            Ok(Told::Refused(rule_line(alloc, plain, line, refusal)?))
+            let text = rule_line(alloc, &state.plain, line, refusal)?;
+            Ok(Told::Refused(text))
         }
         Err(Judged::NoMemory) => Err(NoMemory),
     }

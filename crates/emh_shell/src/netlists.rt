@@ -1,5 +1,5 @@
 //! The commands of netlists.
-ghost use Rattle.std.specs.Prelude.{◌≡◌, ◌↔◌, ◌++◌, List, IsTrue, IfOk, OnOk};
+ghost use Rattle.std.specs.Prelude.{◌≡◌, ◌↔◌, ◌++◌, ℕ, List, IsTrue, IfOk, OnOk};
 ghost use Rattle.emh_base.specs.declared.state.State.{State};
 ghost use Rattle.flatten_rules.specs.Sound.{IsSound};
 ghost use Rattle.flatten_rules.specs.Design.{IsGood};

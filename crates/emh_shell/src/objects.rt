@@ -1,16 +1,15 @@
 //! What a rule's refusal is about, in print.
-ghost use Rattle.std.specs.Prelude.{◌≡◌, [], ◌++◌, option_map, option_and_then, unwrap_or, IfOk, OnOk, codes};
+ghost use Rattle.std.specs.Prelude.{◌≡◌, [], ◌++◌, None, option_and_then, unwrap_or, IfOk, OnOk, codes};
 ghost use Rattle.std.specs.Option.{option_copied};
 ghost use Rattle.emh_base.specs.Text.{spell, path_text};
-ghost use Rattle.emh_base.specs.declared.plain.PNet.{PNet};
-ghost use Rattle.emh_base.specs.declared.plain.PInst.{PInst};
 ghost use Rattle.flatten_rules.specs.Lookup.{module_of, net_of, inst_of};
 ghost use Rattle.flatten_rules.specs.Sound.{IsSound};
 ghost use Rattle.emh_shell.specs.Objects.{name_or_number, module_word, net_word, inst_word, new_name, path_of, number_of, word_at, object_text, rule_line};
 
 use crate::printing::{number_object, refused_line, word_object};
 use emh_base::{
-    InstId, List, ModId, Name, NetId, NoMemory, Object, Plain, Refusal, push_number, push_spelled,
+    InstId, List, ModId, Name, NetId, NoMemory, Object, PInst, PNet, Plain, Refusal, push_number,
+    push_spelled,
 };
 use flatten_rules::{find, module_of, net_of};
 use script_read::{Command, Line, put_path};
@@ -86,7 +85,10 @@ fn net_text(
     let mut text = List::from_slice(alloc, what)?;
     push_module(plain, module, &mut text)?;
     text.push(b' ')?;
-    push_name(net.0, net_name(plain, module, net), &mut text)?;
+    match net_in(plain, module, net) {
+        None => push_id(net.0, &mut text)?,
+        Some(net) => push_spelled(&mut text, &net.name)?,
+    }
     Ok(text)
 }
 
@@ -104,7 +106,10 @@ fn inst_text(
     let mut text = List::from_slice(alloc, b"inst ")?;
     push_module(plain, module, &mut text)?;
     text.push(b' ')?;
-    push_name(inst.0, inst_name(plain, module, inst), &mut text)?;
+    match inst_in(plain, module, inst) {
+        None => push_id(inst.0, &mut text)?,
+        Some(inst) => push_spelled(&mut text, &inst.name)?,
+    }
     Ok(text)
 }
 
@@ -161,36 +166,40 @@ fn push_module(plain: &Plain, module: ModId, text: &mut List<u8>) -> Result<(), 
     requires { IsSound plain.now }
     ensures { OnOk result (text.new ≡ text.old ++ module_word plain.now «module») }
 {
-    let name = module_of(plain, module).map(|holder| &holder.name);
-    push_name(module.0, name, text)
-}
-
-fn net_name(plain: &Plain, module: ModId, net: NetId) -> Option<&Name>
-    requires { IsSound plain.now }
-    ensures { option_copied result ≡ option_map (λ (net : PNet). net.name)
-        (option_and_then (λ m. net_of m net) (module_of plain.now «module»)) }
-{
-    Some(&net_of(module_of(plain, module)?, net)?.name)
-}
-
-fn inst_name(plain: &Plain, module: ModId, inst: InstId) -> Option<&Name>
-    requires { IsSound plain.now }
-    ensures { option_copied result ≡ option_map (λ (inst : PInst). inst.name)
-        (option_and_then (λ m. inst_of m inst) (module_of plain.now «module»)) }
-{
-    let holder = module_of(plain, module)?;
-    Some(&find(holder.insts.as_slice(), inst.0)?.name)
-}
-
-/// Puts a name last, or the number of an id that names nothing.
-fn push_name(id: u32, name: Option<&Name>, text: &mut List<u8>) -> Result<(), NoMemory>
-    ensures { OnOk result (text.new ≡ text.old ++ name_or_number id (option_copied name)) }
-{
-    match name {
-        Some(name) => push_spelled(text, name),
-        None => {
-            text.push(b'?')?;
-            push_number(text, u64::from(id))
-        }
+    match module_of(plain, module) {
+        None => push_id(module.0, text),
+        Some(holder) => push_spelled(text, &holder.name),
     }
+}
+
+/// The net of a module, if there is one.
+fn net_in(plain: &Plain, module: ModId, net: NetId) -> Option<&PNet>
+    requires { IsSound plain.now }
+    ensures { option_copied result ≡ option_and_then (λ m. net_of m net)
+        (module_of plain.now «module») }
+{
+    match module_of(plain, module) {
+        None => None,
+        Some(holder) => net_of(holder, net),
+    }
+}
+
+/// The instance in a module, if there is one.
+fn inst_in(plain: &Plain, module: ModId, inst: InstId) -> Option<&PInst>
+    requires { IsSound plain.now }
+    ensures { option_copied result ≡ option_and_then (λ m. inst_of m inst)
+        (module_of plain.now «module») }
+{
+    match module_of(plain, module) {
+        None => None,
+        Some(holder) => find(holder.insts.as_slice(), inst.0),
+    }
+}
+
+/// Puts an id that names nothing last.
+fn push_id(id: u32, text: &mut List<u8>) -> Result<(), NoMemory>
+    ensures { OnOk result (text.new ≡ text.old ++ name_or_number id None) }
+{
+    text.push(b'?')?;
+    push_number(text, u64::from(id))
 }

@@ -1,14 +1,13 @@
 //! The lines of reports.
-ghost use Rattle.std.specs.Prelude.{◌≡◌, ◌++◌, IfOk, OnOk, length, map};
-ghost use Rattle.emh_base.specs.Text.{spell};
+ghost use Rattle.std.specs.Prelude.{◌≡◌, ◌≤◌, ◌++◌, IfOk, OnOk, length, map};
 ghost use Rattle.emh_shell.specs.Answers.{watched};
-ghost use Rattle.emh_shell.specs.Reports.{ReportAnswers, session_report, log_text, observer_lines, observer_line};
+ghost use Rattle.emh_shell.specs.Reports.{ReportAnswers, session_report, log_text, observer_lines, observer_line, mark_word};
 ghost use Rattle.emh_shell.specs.inside.Telling.{Tells};
 
 use crate::answer::Told;
 use crate::objects::rule_line;
 use crate::printing::ok_line;
-use emh_base::{Kind, List, NoMemory};
+use emh_base::{Kind, List, NoMemory, push_spelled_bytes};
 use emh_session::{Observer, Session};
 use reports::{ReportFault, push_count, push_report};
 use script_read::Line;
@@ -23,6 +22,7 @@ pub fn report(
     watch: &[Box<dyn Observer>],
 ) -> Result<Told, NoMemory>
     requires watched { length watch.now ≡ length session.old.enabled }
+    requires few { length watch.now ≤ 64 }
     ensures tells { let W = watched (λ b. called b) (λ b. wants b) watch.now in
         IfOk result (λ told. Tells (λ s answer.
         ReportAnswers line.now s (session_report W s kind.now) answer) session.old told session.new) }
@@ -51,6 +51,7 @@ fn push_log(
     out: &mut List<u8>,
 ) -> Result<(), NoMemory>
     requires watched { length watch.now ≡ length session.now.enabled }
+    requires few { length watch.now ≤ 64 }
     ensures { OnOk result (out.new
         ≡ out.old ++ log_text (map (λ b. called b) watch.now) session.now) }
 {
@@ -67,6 +68,7 @@ fn push_observers(
     out: &mut List<u8>,
 ) -> Result<(), NoMemory>
     requires watched { length watch.now ≡ length session.now.enabled }
+    requires few { length watch.now ≤ 64 }
     ensures { OnOk result (out.new
         ≡ out.old ++ observer_lines (map (λ b. called b) watch.now) session.now.enabled) }
 {
@@ -83,18 +85,22 @@ fn push_observer(
 ) -> Result<(), NoMemory>
     ensures { OnOk result (out.new ≡ out.old ++ observer_line (called member.now, enabled)) }
 {
-    out.extend(b"observer ")?;
-    push_spelled_bytes(out, member.name())?;
-    if enabled {
-        out.extend(b" on\n")
-    } else {
-        out.extend(b" off\n")
-    }
+    push_mark(member.name(), enabled, out)
 }
 
-// DEV STUB, to be taken from emh_base
-fn push_spelled_bytes(out: &mut List<u8>, name: &[u8]) -> Result<(), NoMemory>
-    ensures { OnOk result (out.new ≡ out.old ++ spell name.now) }
+/// Puts the line of an observer of a name last.
+fn push_mark(name: &[u8], enabled: bool, out: &mut List<u8>) -> Result<(), NoMemory>
+    ensures { OnOk result (out.new ≡ out.old ++ observer_line (name.now, enabled)) }
 {
-    out.extend(name)
+    out.extend(b"observer ")?;
+    push_spelled_bytes(out, name)?;
+    out.push(b' ')?;
+    out.extend(mark_word(enabled))?;
+    out.push(b'\n')
+}
+
+fn mark_word(enabled: bool) -> &'static [u8]
+    ensures { result.now ≡ mark_word enabled }
+{
+    if enabled { b"on" } else { b"off" }
 }

@@ -1,5 +1,5 @@
 //! One line of a script.
-ghost use Rattle.std.specs.Prelude.{◌≡◌, length};
+ghost use Rattle.std.specs.Prelude.{◌≡◌, ◌≤◌, length};
 ghost use Rattle.emh_shell.specs.Answers.{watched};
 ghost use Rattle.emh_shell.specs.inside.Ends.{LineEnds};
 
@@ -21,7 +21,8 @@ pub fn step<F: Shelf>(
     shelf: &mut F,
     watch: &[Box<dyn Observer>],
 ) -> Result<List<u8>, Halt>
-    requires { length watch.now ≡ progress.old.watchers }
+    requires watched { length watch.now ≡ progress.old.watchers }
+    requires few { length watch.now ≤ 64 }
     ensures ends { let W = watched (λ b. called b) (λ b. wants b) watch.now in
         LineEnds W line.now (F.told shelf.old) (F.told shelf.new)
         progress.old progress.new result }

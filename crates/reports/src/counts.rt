@@ -93,7 +93,7 @@ pub fn one_more(count: u64) -> Result<u64, NoMemory>
 
 /// Puts a line `NAME N` last.
 #[tactic(auto, using(crate::proofs::Kept::kept_more))]
-fn push_count(name: &[u8], count: u64, out: &mut List<u8>) -> Result<(), NoMemory>
+pub fn push_count(name: &[u8], count: u64, out: &mut List<u8>) -> Result<(), NoMemory>
     ensures ok { OnOk result (out.new ≡ out.old ++ count_line name.now count) }
     ensures err { OnErr result (take (length out.old) out.new ≡ out.old) }
 {

@@ -15,7 +15,7 @@ mod report;
 mod whereabouts;
 
 pub use block::push_block;
-pub use counts::push_counts;
+pub use counts::{push_count, push_counts};
 pub use fault::ReportFault;
 pub use laws::two_level_reports;
 pub use modules::push_modules;

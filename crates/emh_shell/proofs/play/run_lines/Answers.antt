@@ -1,8 +1,9 @@
-use Rattle.std.proofs.Common.{◌≡◌, ◌∙◌, ap, sym, refl, arith, if◌then◌else◌, Err, Bool, true, false, subst}
+use Rattle.std.proofs.Common.{◌≡◌, ◌∙◌, length, ap, sym, refl, arith, if◌then◌else◌, Err, Bool, true, false, subst}
 use mir.Val.{bool_byte}
 use Rattle.std.proofs.lemmas.Result.{err_from_is_err_and}
 use Rattle.emh_io.specs.PutAll.{PutsAll}
-use Rattle.emh_shell.proofs.Playing.{Standing-start, Standing-more, Ends-line, Ends-put, Ends-out}
+use Rattle.emh_shell.specs.Progress.{Progress}
+use Rattle.emh_shell.proofs.Playing.{at-begin, Standing-start, Standing-more, Ends-line, Ends-put, Ends-out}
 use Rattle.emh_shell.proofs.play.run_lines.Goals as goal
 
 byte-of : (refused : Bool) → bool_byte refused ≡ (if refused then 1 else 0)
@@ -11,8 +12,8 @@ byte-of false = refl
 
 pub loop-line-init : goal.loop-line-init
 loop-line-init g c = record {
-  stands = rw c.new-progress.ensures (Standing-start _ _ (g.F.Shelf.told c.args.shelf.now) (g.K.Sink.told c.args.out.now) c.args.lines.now _ (fresh c.args.budget c.args.watch.now _ _ _ refl));
-  watchers = ap (λ (z : Progress). z.watchers) (sym c.new-progress.ensures);
+  stands = Standing-start _ _ (g.F.Shelf.told c.args.shelf.now) (g.K.Sink.told c.args.out.now) c.args.lines.now c.new-progress.result (c.new-progress.ensures ∙ at-begin _ _ c.args.watch.now c.args.budget (length c.args.watch.now) refl);
+  watchers = sym (ap (λ (z : Progress). z.watchers) c.new-progress.ensures);
 }
 
 pub loop-line-preserved : goal.loop-line-preserved
