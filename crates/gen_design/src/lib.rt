@@ -1,0 +1,9 @@
+//! Made designs of any size, and random edits of a design.
+#![tactic(auto)]
+
+mod laws;
+mod made;
+mod random;
+
+pub use laws::{each_made_table_is_sound, worked_designs};
+pub use made::{generate, top_name};

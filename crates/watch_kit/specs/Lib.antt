@@ -1,0 +1,9 @@
+pub mod Passed
+pub mod NetBits
+pub mod Sinks
+pub mod Split
+pub mod Sweep
+pub mod FanoutLimit
+pub mod Snap
+pub mod Restless
+pub mod Examples
