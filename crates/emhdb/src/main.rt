@@ -7,10 +7,12 @@ ghost use Rattle.std.specs.IoError.{error_kind};
 use emh_io::{FileShelf, OutSink};
 use emh_session::Observer;
 use emh_shell::run;
+use std::alloc::{AllocError, Global};
 use std::io::ErrorKind;
 use std::process::ExitCode;
 use std::rt::Runtime;
 use std::{env, io};
+use watch_kit::{Restless, Snap, Sweep};
 
 /// The status where the words of the command line aren't text.
 const NO_WORDS: u8 = 2;
@@ -49,10 +51,20 @@ fn status_of<R: Runtime + AllocGlobal>(rt: &R, words: &[String]) -> u8
     let Ok(files) = rt.clone() else {
         return NO_MEMORY;
     };
+    let Ok(watch) = observers(rt.alloc()) else {
+        return NO_MEMORY;
+    };
     let mut shelf = FileShelf::new(rt.alloc(), files);
     let mut out = OutSink::new(io::writer(rt));
-    let watch: [Box<dyn Observer>; 0] = [];
     run(rt.alloc(), words, &mut shelf, &mut out, &watch)
+}
+
+/// The observers that a script may enable, in the order in which they are told.
+fn observers(alloc: Global) -> Result<[Box<dyn Observer>; 3], AllocError> {
+    let sweep: Box<dyn Observer> = Box::new(alloc, Sweep::new(alloc))?;
+    let snap: Box<dyn Observer> = Box::new(alloc, Snap::new(alloc))?;
+    let restless: Box<dyn Observer> = Box::new(alloc, Restless::new(alloc))?;
+    Ok([sweep, snap, restless])
 }
 
 /// The status where the words can't be had.

@@ -12,7 +12,7 @@ byte-of false = refl
 
 pub loop-line-init : goal.loop-line-init
 loop-line-init g c = record {
-  stands = Standing-start _ _ (g.F.Shelf.told c.args.shelf.now) (g.K.Sink.told c.args.out.now) c.args.lines.now c.new-progress.result (c.new-progress.ensures ∙ at-begin _ _ c.args.watch.now c.args.budget (length c.args.watch.now) refl);
+  stands = Standing-start _ _ (g.F.Shelf.told c.args.shelf.now) (g.K.Sink.told c.args.out.now) c.args.lines.now c.new-progress.result (c.new-progress.ensures ∙ at-begin (λ b. (goal.Observer-dyn g (b.vtable, b.value)).called b.value) (λ b. (goal.Observer-dyn g (b.vtable, b.value)).wants b.value) c.args.watch.now c.args.budget (length c.args.watch.now) refl);
   watchers = sym (ap (λ (z : Progress). z.watchers) c.new-progress.ensures);
 }
 
