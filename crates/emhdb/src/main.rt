@@ -4,10 +4,10 @@
 ghost use Rattle.std.specs.Prelude.{◌≡◌, ◌≤◌};
 ghost use Rattle.std.specs.IoError.{error_kind};
 
+use emh_base::NoMemory;
 use emh_io::{FileShelf, OutSink};
 use emh_session::Observer;
 use emh_shell::run;
-use std::alloc::{AllocError, Global};
 use std::io::ErrorKind;
 use std::process::ExitCode;
 use std::rt::Runtime;
@@ -48,23 +48,32 @@ fn words<R: Runtime + AllocGlobal>(rt: &R) -> io::Result<Vec<String>> {
 fn status_of<R: Runtime + AllocGlobal>(rt: &R, words: &[String]) -> u8
     ensures { result ≤ 5 }
 {
-    let Ok(files) = rt.clone() else {
-        return NO_MEMORY;
-    };
-    let Ok(watch) = observers(rt.alloc()) else {
-        return NO_MEMORY;
-    };
-    let mut shelf = FileShelf::new(rt.alloc(), files);
-    let mut out = OutSink::new(io::writer(rt));
-    run(rt.alloc(), words, &mut shelf, &mut out, &watch)
+    match run_over_files(rt, words) {
+        Ok(status) => status,
+        Err(NoMemory) => NO_MEMORY,
+    }
 }
 
-/// The observers that a script may enable, in the order in which they are told.
-fn observers(alloc: Global) -> Result<[Box<dyn Observer>; 3], AllocError> {
+/// Runs these words over the real files and standard output, with the observers that a script may enable in the order
+/// in which they are told.
+///
+/// # Errors
+///
+/// [`NoMemory`] where no memory is found for the files or the observers; nothing has been printed then.
+fn run_over_files<R: Runtime + AllocGlobal>(rt: &R, words: &[String]) -> Result<u8, NoMemory>
+    ensures statuses { IfOk result (λ status. status ≤ 5) }
+{
+    let Ok(files) = rt.clone() else {
+        return Err(NoMemory);
+    };
+    let alloc = rt.alloc();
     let sweep: Box<dyn Observer> = Box::new(alloc, Sweep::new(alloc))?;
     let snap: Box<dyn Observer> = Box::new(alloc, Snap::new(alloc))?;
     let restless: Box<dyn Observer> = Box::new(alloc, Restless::new(alloc))?;
-    Ok([sweep, snap, restless])
+    let watch = [sweep, snap, restless];
+    let mut shelf = FileShelf::new(alloc, files);
+    let mut out = OutSink::new(io::writer(rt));
+    Ok(run(alloc, words, &mut shelf, &mut out, &watch))
 }
 
 /// The status where the words can't be had.
