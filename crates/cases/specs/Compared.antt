@@ -2,7 +2,7 @@ use Rattle.std.specs.Prelude.{◌≡◌, ℕ, ◌+◌, ◌<◌, ◌==◌, Bool, 
 use Rattle.std.specs.List.{list_all}
 use Rattle.emh_io.specs.Files.{Files, held}
 use Rattle.emh_io.specs.declared.held.Held.{Held}
-use Rattle.emh_shell.specs.Answers.{nobody}
+use Rattle.emh_shell.specs.Answers.{Watched}
 use Rattle.emh_shell.specs.Play.{Play}
 use Rattle.cases.specs.declared.verdict.Verdict.{Verdict}
 use Rattle.cases.specs.declared.verdict.Verdict.TheVariants.{Passed, OtherText, OtherStatus, OtherFiles}
@@ -43,18 +43,18 @@ with_files (OtherStatus ended) held status = OtherStatus ended
 with_files (OtherFiles ended) held status = OtherFiles ended
 
 -- some files that the plain session leaves, with that text and that status, are as they were to be
-abbrev pub PlaysTo : Files → List (List ℕ) → List ℕ → ℕ → List Held → Type 0
-PlaysTo files words text status after =
-    (left : Files) × Play nobody (Some files) words text (Some left) status × (are_held left after ≡ true)
+abbrev pub PlaysTo : Watched → Files → List (List ℕ) → List ℕ → ℕ → List Held → Type 0
+PlaysTo W files words text status after =
+    (left : Files) × Play W (Some files) words text (Some left) status × (are_held left after ≡ true)
 
 -- What a verdict says of the plain session, where a script ran to its end: a case that passed is what that session prints,
 -- leaves and ends with, and one that differs isn't.
-abbrev pub IsTrueOf : Files → List (List ℕ) → List ℕ → ℕ → List Held → Verdict → Type 0
-IsTrueOf files words wanted wanted_status after Passed =
-    wanted_status < 3 → PlaysTo files words wanted wanted_status after
-IsTrueOf files words wanted wanted_status after (OtherText lines ended) =
-    ended < 3 → PlaysTo files words wanted wanted_status after → ⊥
-IsTrueOf files words wanted wanted_status after (OtherStatus ended) =
-    ended < 3 → PlaysTo files words wanted wanted_status after → ⊥
-IsTrueOf files words wanted wanted_status after (OtherFiles ended) =
-    ended < 3 → PlaysTo files words wanted wanted_status after → ⊥
+abbrev pub IsTrueOf : Watched → Files → List (List ℕ) → List ℕ → ℕ → List Held → Verdict → Type 0
+IsTrueOf W files words wanted wanted_status after Passed =
+    wanted_status < 3 → PlaysTo W files words wanted wanted_status after
+IsTrueOf W files words wanted wanted_status after (OtherText lines ended) =
+    ended < 3 → PlaysTo W files words wanted wanted_status after → ⊥
+IsTrueOf W files words wanted wanted_status after (OtherStatus ended) =
+    ended < 3 → PlaysTo W files words wanted wanted_status after → ⊥
+IsTrueOf W files words wanted wanted_status after (OtherFiles ended) =
+    ended < 3 → PlaysTo W files words wanted wanted_status after → ⊥

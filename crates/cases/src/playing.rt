@@ -6,10 +6,12 @@ use crate::tally::Tally;
 use crate::trying::try_case;
 use crate::verdict::Verdict;
 use emh_io::are_distinct;
+use emh_session::Observer;
 use std::alloc::Global;
 use std::io;
 use std::io::ErrorKind;
 use std::rt::Runtime;
+use watch_kit::{Restless, Snap, Sweep};
 
 /// Plays the cases of a text, prints a line for each that differs, and counts them.
 pub fn play_cases<R: Runtime + AllocGlobal>(
@@ -34,6 +36,7 @@ pub fn play_cases<R: Runtime + AllocGlobal>(
     Ok(())
 }
 
+/// Plays a case with the observers of the program.
 fn play_case(alloc: Global, case: &Case<'_>, status: u8) -> Result<Verdict, CaseFault> {
     let files = case.files()?;
     if !are_distinct(files.as_slice()) {
@@ -42,7 +45,11 @@ fn play_case(alloc: Global, case: &Case<'_>, status: u8) -> Result<Verdict, Case
     let words = case.words()?;
     let faults = case.faults()?;
     let wanted = case.wanted(status)?;
-    Ok(try_case(alloc, files, words.as_slice(), faults, &wanted))
+    let sweep: Box<dyn Observer> = Box::new(alloc, Sweep::new(alloc))?;
+    let snap: Box<dyn Observer> = Box::new(alloc, Snap::new(alloc))?;
+    let restless: Box<dyn Observer> = Box::new(alloc, Restless::new(alloc))?;
+    let watch = [sweep, snap, restless];
+    Ok(try_case(alloc, files, words.as_slice(), faults, &wanted, &watch))
 }
 
 /// Counts a case, and prints where it differs. The place is a line of the case file.

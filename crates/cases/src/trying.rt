@@ -1,4 +1,5 @@
-ghost use Rattle.std.specs.Prelude.{◌≡◌, ◌≤◌, map, IsTrue, string_bytes};
+ghost use Rattle.std.specs.Prelude.{◌≡◌, ◌≤◌, map, length, IsTrue, string_bytes};
+ghost use Rattle.emh_shell.specs.Answers.{watched};
 ghost use Rattle.emh_io.specs.Held.{files_of, are_distinct};
 ghost use Rattle.cases.specs.Compared.{is_held, are_held, with_files, IsTrueOf};
 
@@ -27,25 +28,27 @@ pub struct Wanted<'a> {
     pub files: List<Held>,
 }
 
-/// Runs a script over files and says whether it prints the wanted text, ends with the wanted status
-/// and leaves the wanted files.
+/// Runs a script over files, with observers, and says whether it prints the wanted text, ends with
+/// the wanted status and leaves the wanted files.
 pub fn try_case(
     alloc: Global,
     files: List<Held>,
     words: &[String],
     faults: Faults,
     wanted: &Wanted<'_>,
+    watch: &[Box<dyn Observer>],
 ) -> Verdict
     requires distinct { IsTrue (are_distinct (files_of files)) }
     requires most { 1 ≤ faults.most }
-    ensures { IsTrueOf (files_of files) (map string_bytes words.now)
+    requires few { length watch.now ≤ 64 }
+    ensures { IsTrueOf (watched (λ b. called b) (λ b. wants b) watch.now)
+        (files_of files) (map string_bytes words.now)
         wanted.now.text.now wanted.now.status wanted.now.files result }
 {
     each_session_once();
     let mut shelf = MemShelf::new(alloc, files, faults.fetches, faults.stores);
     let mut out = MemSink::new(alloc, faults.most, faults.puts);
-    let watch: [Box<dyn Observer>; 0] = [];
-    let status = run(alloc, words, &mut shelf, &mut out, &watch);
+    let status = run(alloc, words, &mut shelf, &mut out, watch);
     let verdict = compare(wanted.text, wanted.status, out.bytes(), status);
     with_files(verdict, are_held(&shelf, wanted.files.as_slice()), status)
 }

@@ -4,7 +4,8 @@ use Rattle.emh_io.specs.Files.{Files}
 use Rattle.emh_shell.specs.Answers.{Watched}
 use Rattle.command_line.specs.CommandLine.{asked}
 use Rattle.command_line.specs.declared.words.Asked.{Asked}
-use Rattle.emh_shell.specs.Script.{lines_to_run, fault_line}
+use Rattle.script_read.specs.Script.{script_of}
+use Rattle.emh_shell.specs.Printing.{fault_line}
 use Rattle.script_read.specs.declared.lines.Line.{Line}
 use Rattle.emh_shell.specs.Fetching.{Gives, Lacks}
 use Rattle.script_read.specs.declared.lines.ScriptFault.{ScriptFault}
@@ -24,7 +25,7 @@ one-reads : (f : Files) (words : List (List ℕ)) (l m : List Line) → Reads (S
 one-reads f words l m a b =
     let asks : a.ask ≡ b.ask = one-ask f words l m a b in
     let bytes : a.bytes ≡ b.bytes = ok_ok f b.ask.script a.bytes b.bytes (rw asks at a.gives) b.gives in
-    let lines : Ok l ≡ Ok m = sym a.read ∙ ap lines_to_run bytes ∙ b.read in
+    let lines : Ok l ≡ Ok m = sym a.read ∙ ap script_of bytes ∙ b.read in
     cc
 
 one-fault : (f : Files) (ask : Option Asked) (text other : List ℕ) → FaultyAsk (Some f) ask text → FaultyAsk (Some f) ask other → text ≡ other
@@ -34,17 +35,17 @@ one-fault f (Some ask) text other (inl a) (inr b) = absurd (ok_long f ask.script
 one-fault f (Some ask) text other (inr a) (inl b) = absurd (ok_long f ask.script a.bytes a.gives b.0)
 one-fault f (Some ask) text other (inr a) (inr b) =
     let bytes : a.bytes ≡ b.bytes = ok_ok f ask.script a.bytes b.bytes a.gives b.gives in
-    let faults : Err a.fault ≡ Err b.fault = sym a.read ∙ ap lines_to_run bytes ∙ b.read in
+    let faults : Err a.fault ≡ Err b.fault = sym a.read ∙ ap script_of bytes ∙ b.read in
     let fault : a.fault ≡ b.fault = cc in
     a.told ∙ ap fault_line fault ∙ sym b.told
 
 fault-asked : (f : Files) (words : List (List ℕ)) (text : List ℕ) (ask : Asked) → asked words ≡ Some ask → Faulty (Some f) words text → FaultyAsk (Some f) (Some ask) text
 fault-asked f words text ask e a = rw e at a
 
-fault-bytes : (f : Files) (ask : Asked) (text bytes : List ℕ) (l : List Line) → FaultyAsk (Some f) (Some ask) text → Gives (Some f) ask.script (Ok bytes) → lines_to_run bytes ≡ Ok l → ⊥
+fault-bytes : (f : Files) (ask : Asked) (text bytes : List ℕ) (l : List Line) → FaultyAsk (Some f) (Some ask) text → Gives (Some f) ask.script (Ok bytes) → script_of bytes ≡ Ok l → ⊥
 fault-bytes f ask text bytes l (inl a) gives read = ok_long f ask.script bytes gives a.0
 fault-bytes f ask text bytes l (inr a) gives read =
-    let never : Err a.fault ≡ Ok l = sym a.read ∙ ap lines_to_run (ok_ok f ask.script a.bytes bytes a.gives gives) ∙ read in
+    let never : Err a.fault ≡ Ok l = sym a.read ∙ ap script_of (ok_ok f ask.script a.bytes bytes a.gives gives) ∙ read in
     cc
 
 fault-reads : (f : Files) (words : List (List ℕ)) (text : List ℕ) (l : List Line) → Faulty (Some f) words text → Reads (Some f) words l → ⊥

@@ -6,7 +6,7 @@ use Rattle.emh_base.specs.declared.state.State.{State}
 use Rattle.session_rules.specs.Session.{PlainSession, Undoes, Redoes}
 use Rattle.script_read.specs.Resolve.{Looked, resolution}
 use Rattle.script_read.specs.declared.command.Command.{Command}
-use Rattle.script_read.specs.declared.command.Command.TheVariants.{Undo, Redo, Observe, Ignore, Report}
+use Rattle.script_read.specs.declared.command.Command.TheVariants.{Undo, Redo, Observe, Ignore, Report, Churn}
 use Rattle.script_read.specs.declared.lines.Line.{Line}
 use Rattle.emh_shell.specs.Progress.{Progress}
 use Rattle.emh_shell.specs.Answers.{Watched, Answer, Refuses, Accepts, InSession, Answered, text_of, after}
@@ -97,5 +97,6 @@ one_session W Undo line session a b x y = one_undo line.number (first_word line)
 one_session W Redo line session a b x y = one_redo line.number (first_word line) session a b x y
 one_session W (Observe name) line session a b x y = x ∙ sym y
 one_session W (Ignore name) line session a b x y = x ∙ sym y
+one_session W (Churn seed turns) line session a b x y = x ∙ sym y
 one_session W (Report kind) line session a b x y = one_report line session (session_report W session kind) a b x y
 one_session W command line session a b x y = one_edit W line session (resolution session.now command) a b x y

@@ -1,17 +1,14 @@
 -- A file of a told shelf is one table, or has one fault; and so as a design.
-use Rattle.std.proofs.Common.{◌≡◌, ℕ, Bool, false, List, Option, Some, None, option_map, refl, sym, ap, subst, ◌∙◌, Ok, Err}
+use Rattle.std.proofs.Common.{◌≡◌, ℕ, Bool, false, List, Option, Some, None, refl, sym, ap, subst, ◌∙◌, Ok, Err}
 use Rattle.std.specs.Prelude.{Result}
 use Rattle.emh_base.specs.declared.plain.Plain.{Plain}
 use Rattle.emh_base.specs.declared.state.State.{State}
 use Rattle.emh_io.specs.Files.{Files, held}
-use Rattle.flatten_rules.specs.Design.{module_named}
 use Rattle.vlog_elab.specs.declared.reads.ReadFault.{ReadFault}
 use Rattle.vlog_elab.specs.Reads.{Reads, HasReadFault}
 use Rattle.vlog_elab.proofs.OneReading.{one_reading}
 use Rattle.edit_rules.specs.declared.opening.OpenFault.{OpenFault}
-use Rattle.edit_rules.specs.Opening.{open_fault, top_named}
-use Rattle.desk.specs.Desk.{bare}
-use Rattle.emh_shell.specs.Fetching.{Gives, Lacks, HasTable, HasDesign}
+use Rattle.emh_shell.specs.Fetching.{Gives, Lacks, HasTable, HasDesign, Opens}
 use Rattle.emh_shell.specs.declared.fault.FileFault.{FileFault}
 use Rattle.emh_shell.specs.declared.fault.FileFault.TheVariants.{TooLong, Reading}
 use Rattle.emh_shell.specs.declared.fault.DesignFault.{DesignFault}
@@ -45,6 +42,13 @@ module _ (files : Files) (library : Plain) (all_leaf : Bool) (file : List ℕ) w
   lacks_table (Err TooLong) lacks a = lacks_long files file lacks a
   lacks_table (Err (Reading f)) lacks a = lacks_ok files file a.0 lacks a.1
 
+-- a table is opened in one way
+pub one_opening : (plain : Plain) (top : List ℕ) (reply other : Result State OpenFault) → Opens plain top reply → Opens plain top other → reply ≡ other
+one_opening plain top (Ok d) (Ok e) a b = let same : Some d ≡ Some e = sym a.1 ∙ b.1 in ap Ok (cc)
+one_opening plain top (Ok d) (Err f) a b = let never : None ≡ Some f = sym a.0 ∙ b in absurd (cc)
+one_opening plain top (Err f) (Ok d) a b = let never : None ≡ Some f = sym b.0 ∙ a in absurd (cc)
+one_opening plain top (Err f) (Err g) a b = let same : Some f ≡ Some g = sym a ∙ b in ap Err (cc)
+
 module _ (files : Files) (library : Plain) (file top : List ℕ) where
   one_table : (p q : Plain) → HasTable (Some files) library false file (Ok p) → HasTable (Some files) library false file (Ok q) → p ≡ q
   one_table p q a b = let same = one_table_reply files library false file (Ok p) (Ok q) a b in cc
@@ -54,30 +58,27 @@ module _ (files : Files) (library : Plain) (file top : List ℕ) where
       let never = one_table_reply files library false file (Ok p) (Err f) a b in
       cc
 
-  opens_or_not : (design : State) (f : OpenFault) → HasDesign (Some files) library file top (Ok design) → HasDesign (Some files) library file top (Err (Opening f)) → ⊥
-  opens_or_not design f a b =
-      let same : a.0 ≡ b.0 = one_table a.0 b.0 a.1 b.1 in
-      let never : None ≡ Some f = sym a.2 ∙ ap (λ z. open_fault z (module_named z top)) same ∙ b.2 in
-      cc
+  -- so is the table of a file
+  pub one_opened : (reply other : Result State OpenFault) (p q : Plain) → HasTable (Some files) library false file (Ok p) → HasTable (Some files) library false file (Ok q) → Opens p top reply → Opens q top other → reply ≡ other
+  one_opened reply other p q has has_too a b =
+      one_opening q top reply other (subst (λ z. Opens z top reply) (one_table p q has has_too) a) b
+
+  opened : Result State OpenFault → Result State DesignFault
+  opened (Ok design) = Ok design
+  opened (Err fault) = Err (Opening fault)
 
   pub one_design_reply : (reply other : Result State DesignFault) → HasDesign (Some files) library file top reply → HasDesign (Some files) library file top other → reply ≡ other
-  one_design_reply (Ok d) (Ok e) a b =
-      let table : a.0 ≡ b.0 = one_table a.0 b.0 a.1 b.1 in
-      let same : Some d ≡ Some e = sym a.3 ∙ ap (λ z. option_map (bare z) (top_named z top)) table ∙ b.3 in
-      ap Ok (cc)
+  one_design_reply (Ok d) (Ok e) a b = ap opened (one_opened (Ok d) (Ok e) a.0 b.0 a.1 b.1 a.2 b.2)
   one_design_reply (Ok d) (Err (File f)) a b = absurd (table_or_fault a.0 f a.1 b)
-  one_design_reply (Ok d) (Err (Opening f)) a b = absurd (opens_or_not d f a b)
+  one_design_reply (Ok d) (Err (Opening f)) a b = ap opened (one_opened (Ok d) (Err f) a.0 b.0 a.1 b.1 a.2 b.2)
   one_design_reply (Err (File f)) (Ok e) a b = absurd (table_or_fault b.0 f b.1 a)
   one_design_reply (Err (File f)) (Err (File g)) a b =
       let same = one_table_reply files library false file (Err f) (Err g) a b in
       ap (λ z. Err (File z)) (cc)
   one_design_reply (Err (File f)) (Err (Opening g)) a b = absurd (table_or_fault b.0 f b.1 a)
-  one_design_reply (Err (Opening f)) (Ok e) a b = absurd (opens_or_not e f b a)
+  one_design_reply (Err (Opening f)) (Ok e) a b = ap opened (one_opened (Err f) (Ok e) a.0 b.0 a.1 b.1 a.2 b.2)
   one_design_reply (Err (Opening f)) (Err (File g)) a b = absurd (table_or_fault a.0 g a.1 b)
-  one_design_reply (Err (Opening f)) (Err (Opening g)) a b =
-      let same : a.0 ≡ b.0 = one_table a.0 b.0 a.1 b.1 in
-      let faults : Some f ≡ Some g = sym a.2 ∙ ap (λ z. open_fault z (module_named z top)) same ∙ b.2 in
-      ap (λ z. Err (Opening z)) (cc)
+  one_design_reply (Err (Opening f)) (Err (Opening g)) a b = ap opened (one_opened (Err f) (Err g) a.0 b.0 a.1 b.1 a.2 b.2)
 
   pub lacks_design : (reply : Result State DesignFault) → Lacks (Some files) file → HasDesign (Some files) library file top reply → ⊥
   lacks_design (Ok d) lacks a = lacks_table files library false file (Ok a.0) lacks a.1

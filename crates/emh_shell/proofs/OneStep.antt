@@ -7,17 +7,19 @@ use Rattle.emh_io.specs.Files.{Files, held, stored}
 use Rattle.flatten_rules.specs.FlatLines.{flat_lines}
 use Rattle.session_rules.specs.Session.{PlainSession}
 use Rattle.script_read.specs.declared.command.Command.{Command}
-use Rattle.script_read.specs.declared.command.Command.TheVariants.{Load, Cells, Write, Compare, Generate, Churn}
+use Rattle.script_read.specs.declared.command.Command.TheVariants.{Load, Cells, Write, Compare, Generate}
 use Rattle.script_read.specs.declared.lines.Line.{Line}
 use Rattle.vlog_write.specs.Written.{written}
+use Rattle.gen_design.specs.Made.{made, top_name}
 use Rattle.emh_shell.specs.Progress.{Progress}
 use Rattle.emh_shell.specs.Printing.{ok_line}
 use Rattle.emh_shell.specs.Answers.{Watched}
 use Rattle.emh_shell.specs.Fetching.{Lacks}
 use Rattle.emh_shell.specs.Netlists.{Loads, AddsCells, Writes, Compares, ComparesWith, CompareSays, TellsWhether, load_text, after_load, cells_text, after_cells, after_compare}
+use Rattle.emh_shell.specs.Made.{out_of_range, made_text, after_made, GeneratesIn}
 use Rattle.emh_shell.specs.Steps.{Does, Fetches, SessionAnswers, first_word}
 use Rattle.emh_shell.specs.declared.fault.DesignFault.{DesignFault}
-use Rattle.emh_shell.proofs.OneReply.{one_table_reply, one_design_reply, lacks_table, lacks_design}
+use Rattle.emh_shell.proofs.OneReply.{one_opening, one_table_reply, one_design_reply, lacks_table, lacks_design}
 use Rattle.emh_shell.proofs.OneAnswer.{Same, one_answered, one_session}
 
 one_load : (files : Files) (number : ℕ) (file top : List ℕ) (s : Progress) (said other : List ℕ) (t u : Progress) → Loads number file top (Some files) s said t → Loads number file top (Some files) s other u → Same said other t u
@@ -29,6 +31,12 @@ one_cells : (files : Files) (number : ℕ) (file : List ℕ) (s : Progress) (sai
 one_cells files number file s said other t u a b =
     let same = one_table_reply files s.library true file a.reply b.reply a.reads b.reads in
     (a.prints ∙ ap (cells_text number file) same ∙ sym b.prints, a.leads ∙ ap (after_cells s) same ∙ sym b.leads)
+
+one_made : (line : Line) (seed modules width : ℕ) (s : Progress) (said other : List ℕ) (t u : Progress) (place : Option ℕ) → GeneratesIn line seed modules width s said t place → GeneratesIn line seed modules width s other u place → Same said other t u
+one_made line seed modules width s said other t u None a b =
+    let same = one_opening (made seed modules width) (top_name modules) a.reply b.reply a.opens b.opens in
+    (a.prints ∙ ap (made_text line.number (top_name modules)) same ∙ sym b.prints, a.leads ∙ ap (after_made s) same ∙ sym b.leads)
+one_made line seed modules width s said other t u (Some place) a b = (a.0 ∙ sym b.0, a.1 ∙ sym b.1)
 
 one_told : (P : Type 0) (told other : List ℕ) → TellsWhether P told → TellsWhether P other → told ≡ other
 one_told P told other (inl a) (inl b) = a.1 ∙ sym b.1
@@ -69,8 +77,8 @@ one_step W (Write file) files line s said other after another t u a b =
     one_write (Some files) line.number (first_word line) file s said other after another t u s.session a b
 one_step W (Compare file top) files line s said other after another t u a b =
     with_files said other after another t u (one_compare files line.number (first_word line) file top s said other t u s.session a.0 b.0) (a.1 ∙ sym b.1)
-one_step W (Generate seed modules width) files line s said other after another t u a b = (a.0 ∙ sym b.0, a.1 ∙ sym b.1, a.2 ∙ sym b.2)
-one_step W (Churn seed turns) files line s said other after another t u a b = (a.0 ∙ sym b.0, a.1 ∙ sym b.1, a.2 ∙ sym b.2)
+one_step W (Generate seed modules width) files line s said other after another t u a b =
+    with_files said other after another t u (one_made line seed modules width s said other t u (out_of_range modules width) a.0 b.0) (a.1 ∙ sym b.1)
 one_step W command files line s said other after another t u a b =
     with_files said other after another t u (one_answered line.number (first_word line) (SessionAnswers W command line) (one_session W command line) s said other t u a.0 b.0) (a.1 ∙ sym b.1)
 
@@ -88,7 +96,6 @@ told_step W (Cells file) files line s said after t a = (files, a.1)
 told_step W (Write file) files line s said after t a = told_write files line.number (first_word line) file s said after t s.session a
 told_step W (Compare file top) files line s said after t a = (files, a.1)
 told_step W (Generate seed modules width) files line s said after t a = (files, a.1)
-told_step W (Churn seed turns) files line s said after t a = (files, a.1)
 told_step W command files line s said after t a = (files, a.1)
 
 -- a line doesn't go on that fetches a file that isn't held

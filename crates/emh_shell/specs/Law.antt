@@ -8,6 +8,7 @@ use Rattle.script_read.specs.Resolve.{resolution}
 use Rattle.script_read.specs.declared.lines.Line.{Line}
 use Rattle.emh_shell.specs.Answers.{Watched, Accepts}
 use Rattle.emh_shell.specs.Edits.{EditAnswers}
+use Rattle.emh_shell.specs.Churn.{Churned, after_one}
 use Rattle.emh_shell.specs.Play.{Play}
 
 -- over told files and with the same observers the words of a command line have at most one text, one set of files after it, and one status
@@ -25,3 +26,10 @@ EachEditKeepsPlacements =
     → EditAnswers W line before (resolution before.now line.command) (Accepts text after)
     → (journal : List Change) × Leads before.now journal after.now
     × KeepsPlacements before.now journal after.now
+
+-- So it is with each turn of drawn edits: one without an edit, or whose edit is refused, has an empty journal.
+abbrev pub EachTurnKeepsPlacements : Type 0
+EachTurnKeepsPlacements =
+    (W : Watched) (at : Churned) (turn : ℕ)
+    → (journal : List Change) × Leads at.session.now journal (after_one W at turn).session.now
+    × KeepsPlacements at.session.now journal (after_one W at turn).session.now

@@ -9,8 +9,9 @@ pub mod Edits
 pub mod History
 pub mod Observers
 pub mod Reports
+pub mod Made
+pub mod Churn
 pub mod Steps
-pub mod Script
 pub mod Play
 pub mod Run
 pub mod Law

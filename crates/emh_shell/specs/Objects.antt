@@ -70,6 +70,10 @@ object_text M line Spot = codes "occ " ++ path_text (path_of line.command)
 object_text M line Number = number_object (number_of line.command)
 object_text M line (Word k) = word_object (word_at line k)
 
+-- a line that is refused by a cause of that code, because of its word at that place
+abbrev pub word_line : Line → ℕ → ℕ → List ℕ
+word_line line code place = refused_line line.number code (word_object (word_at line place))
+
 -- a line that a rule refuses
 abbrev pub rule_line : Plain → Line → Refusal → List ℕ
 rule_line M line refusal = refused_line line.number (rule_code refusal.rule) (object_text M line refusal.object)

@@ -5,14 +5,14 @@ use Rattle.emh_io.specs.declared.shelf.FetchFault.TheVariants.{TooLong}
 use Rattle.script_read.specs.declared.command.Command.{Command}
 use Rattle.script_read.specs.declared.lines.Line.{Line}
 use Rattle.script_read.specs.declared.lines.ScriptFault.{ScriptFault}
-use Rattle.emh_shell.specs.Printing.{usage_line, too_long_line}
+use Rattle.script_read.specs.Script.{script_of}
+use Rattle.emh_shell.specs.Printing.{usage_line, too_long_line, fault_line}
 use Rattle.command_line.specs.CommandLine.{asked}
 use Rattle.command_line.specs.declared.words.Asked.{Asked}
 use Rattle.emh_shell.specs.Answers.{Watched}
 use Rattle.emh_shell.specs.Progress.{Progress, at_first}
 use Rattle.emh_shell.specs.Fetching.{Gives, Lacks}
 use Rattle.emh_shell.specs.Steps.{Steps, Fetches}
-use Rattle.emh_shell.specs.Script.{lines_to_run, fault_line}
 
 -- a point of the session: the text so far, the files, where they are told, and where the script stands
 pub record Point : Type 0 where
@@ -41,7 +41,7 @@ pub record Reads (files : Option Files) (words : List (List ℕ)) (lines : List 
   pub bytes : List ℕ
   pub asks : asked words ≡ Some ask
   pub gives : Gives files ask.script (Ok bytes)
-  pub read : lines_to_run bytes ≡ Ok lines
+  pub read : script_of bytes ≡ Ok lines
 
 -- the first k lines of the script lead to that point
 pub record Stands
@@ -81,7 +81,7 @@ pub record HasFault (files : Option Files) (name text : List ℕ) : Type 0 where
   pub bytes : List ℕ
   pub gives : Gives files name (Ok bytes)
   pub fault : ScriptFault
-  pub read : lines_to_run bytes ≡ Err fault
+  pub read : script_of bytes ≡ Err fault
   pub told : text ≡ fault_line fault
 
 -- why nothing is run, as the one line that is printed says it

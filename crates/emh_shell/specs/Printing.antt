@@ -1,8 +1,10 @@
 -- What a line of a script prints first: that it is done, or why it is refused. This project's own.
-use Rattle.std.specs.Prelude.{ℕ, List, ◌++◌, codes}
+use Rattle.std.specs.Prelude.{ℕ, List, [], ◌++◌, codes}
 use Rattle.std.specs.Fmt.{decimal}
 use Rattle.emh_base.specs.Text.{spell}
 use Rattle.word_table.specs.Causes.{cause_name}
+use Rattle.script_read.specs.declared.lines.ScriptFault.{ScriptFault}
+use Rattle.script_read.specs.declared.lines.ScriptFault.TheVariants.{TooManyLines, BadLine, NoMemory}
 
 -- `ok LINE`
 abbrev pub ok_line : ℕ → List ℕ
@@ -44,3 +46,9 @@ usage_line = codes "usage emhdb [--budget N] SCRIPT\n"
 
 abbrev pub too_long_line : List ℕ
 too_long_line = codes "script too long\n"
+
+-- want of memory is never told
+abbrev pub fault_line : ScriptFault → List ℕ
+fault_line TooManyLines = codes "script has too many lines\n"
+fault_line (BadLine line) = codes "bad line " ++ (decimal line ++ codes "\n")
+fault_line NoMemory = []

@@ -1,3 +1,4 @@
+pub mod Churning
 pub mod Ends
 pub mod Halts
 pub mod Replies

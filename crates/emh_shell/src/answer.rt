@@ -4,11 +4,11 @@ ghost use Rattle.emh_shell.specs.Answers.{watched, no_design_line, Answered};
 ghost use Rattle.emh_shell.specs.Steps.{first_word, asks_session, SessionAnswers};
 ghost use Rattle.emh_shell.specs.inside.Telling.{Tells};
 
+use crate::churn::churn;
 use crate::edits::edit;
 use crate::history::{redo, undo};
-use crate::objects::word_at;
+use crate::objects::word_line;
 use crate::observers::mark;
-use crate::printing::{refused_line, word_object};
 use crate::progress::Progress;
 use crate::report::report;
 use emh_base::{List, NoMemory};
@@ -28,8 +28,7 @@ pub enum Told {
 pub fn no_design_line(alloc: Global, line: &Line) -> Result<List<u8>, NoMemory>
     ensures { IfOk result (λ text. text ≡ no_design_line line.now.number (first_word line.now)) }
 {
-    let object = word_object(alloc, word_at(line, 0))?;
-    refused_line(alloc, line.number, 27, object.as_slice())
+    word_line(alloc, line, 27, 0)
 }
 
 /// Carries out a line that is about the open session, and gives what it prints.
@@ -84,6 +83,7 @@ fn answer_in(
         Command::Observe { observer } => mark(alloc, line, observer, true, session, watch),
         Command::Ignore { observer } => mark(alloc, line, observer, false, session, watch),
         Command::Report(kind) => report(alloc, line, kind, session, watch),
+        Command::Churn { seed, turns } => churn(alloc, line, *seed, *turns, session, watch),
         _ => edit(alloc, line, session, watch),
     }
 }

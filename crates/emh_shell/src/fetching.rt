@@ -2,9 +2,9 @@
 ghost use Rattle.std.specs.Prelude.{◌≡◌, ◌≤◌, length, IfOk};
 ghost use Rattle.emh_base.specs.declared.file.TheConstants.{FILE_LIMIT};
 ghost use Rattle.flatten_rules.specs.Sound.{IsSound};
-ghost use Rattle.emh_shell.specs.Fetching.{HasTable, HasDesign};
+ghost use Rattle.emh_shell.specs.Fetching.{HasTable, HasDesign, Opens};
 ghost use Rattle.emh_shell.specs.inside.Ends.{FetchEnds};
-ghost use Rattle.emh_shell.specs.inside.Replies.{IsTable, IsDesign, IsFresh, state_of};
+ghost use Rattle.emh_shell.specs.inside.Replies.{IsTable, IsFresh, state_of};
 
 use crate::fault::{DesignFault, FileFault, Halt};
 use desk::Desk;
@@ -74,20 +74,23 @@ pub fn fetch_design<F: Shelf>(
     ensures fresh { IfOk result (λ reply. IfOk reply IsFresh) }
 {
     match fetch_table(alloc, library, false, file, shelf)? {
-        Ok(plain) => Ok(open_table(plain, top)?),
+        Ok(plain) => match open_table(plain, top)? {
+            Ok(desk) => Ok(Ok(desk)),
+            Err(fault) => Ok(Err(DesignFault::Opening(fault))),
+        },
         Err(fault) => Ok(Err(DesignFault::File(fault))),
     }
 }
 
-/// The design of a table at the named top, or why it isn't opened.
-fn open_table(plain: Plain, top: &Name) -> Result<Result<Desk, DesignFault>, NoMemory>
+/// The design of a table at the named top, or why it isn't opened. Nothing is placed, set or remembered in it.
+pub fn open_table(plain: Plain, top: &Name) -> Result<Result<Desk, OpenFault>, NoMemory>
     requires { IsSound plain }
-    ensures design { IfOk result (λ reply. IsDesign plain top.now (state_of reply)) }
+    ensures opens { IfOk result (λ reply. Opens plain top.now (state_of reply)) }
     ensures fresh { IfOk result (λ reply. IfOk reply IsFresh) }
 {
     match Desk::open(plain, top) {
         Ok(desk) => Ok(Ok(desk)),
         Err(OpenFault::NoMemory) => Err(NoMemory),
-        Err(fault) => Ok(Err(DesignFault::Opening(fault))),
+        Err(fault) => Ok(Err(fault)),
     }
 }

@@ -2,11 +2,13 @@
 #![tactic(auto)]
 
 mod answer;
+mod churn;
 mod edits;
 mod fault;
 mod fetching;
 mod history;
 mod laws;
+mod made;
 mod netlists;
 mod objects;
 mod observers;
@@ -15,7 +17,6 @@ mod printing;
 mod progress;
 mod refusing;
 mod report;
-mod script;
 mod step;
 
 pub use fault::{DesignFault, FileFault};

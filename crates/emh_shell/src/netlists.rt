@@ -1,5 +1,5 @@
 //! The commands of netlists.
-ghost use Rattle.std.specs.Prelude.{◌≡◌, ◌↔◌, ◌++◌, ℕ, List, IsTrue, IfOk, OnOk};
+ghost use Rattle.std.specs.Prelude.{◌≡◌, ◌↔◌, ◌++◌, ℕ, List, IsTrue, IfOk};
 ghost use Rattle.emh_base.specs.declared.state.State.{State};
 ghost use Rattle.flatten_rules.specs.Sound.{IsSound};
 ghost use Rattle.flatten_rules.specs.Design.{IsGood};
@@ -8,20 +8,16 @@ ghost use Rattle.script_read.specs.declared.command.Command.TheVariants.{Load, C
 ghost use Rattle.vlog_write.specs.Written.{written};
 ghost use Rattle.emh_shell.specs.Printing.{ok_line};
 ghost use Rattle.emh_shell.specs.Answers.{Watched};
-ghost use Rattle.emh_shell.specs.Progress.{opening};
 ghost use Rattle.emh_shell.specs.Netlists.{TellsWhether};
 ghost use Rattle.emh_shell.specs.inside.Ends.{CommandEnds};
-ghost use Rattle.emh_shell.specs.inside.Replies.{IsFresh};
 
 use crate::answer::no_design_line;
 use crate::fault::Halt;
 use crate::fetching::{fetch_design, fetch_table};
 use crate::printing::ok_line;
 use crate::progress::Progress;
-use desk::Desk;
 use emh_base::{List, Name, NoMemory, Plain, State};
 use emh_io::{Shelf, StoreFault};
-use emh_session::Session;
 use flatten_rules::flat_lines;
 use script_read::Line;
 use std::alloc::Global;
@@ -183,16 +179,4 @@ fn are_same(lines: &[List<u8>], others: &[List<u8>]) -> bool
         at += 1;
     }
     true
-}
-
-impl Progress {
-    /// Begins a session on a design in place of the one that was open.
-    fn open(&mut self, alloc: Global, desk: Desk) -> Result<(), NoMemory>
-        requires { IsFresh desk }
-        ensures ok { OnOk result (self.new ≡ opening self.old desk.state) }
-        ensures watchers { self.new.watchers ≡ self.old.watchers }
-    {
-        self.session = Some(Session::open(alloc, desk, self.budget, self.watchers)?);
-        Ok(())
-    }
 }

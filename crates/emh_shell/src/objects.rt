@@ -4,7 +4,7 @@ ghost use Rattle.std.specs.Option.{option_copied};
 ghost use Rattle.emh_base.specs.Text.{spell, path_text};
 ghost use Rattle.flatten_rules.specs.Lookup.{module_of, net_of, inst_of};
 ghost use Rattle.flatten_rules.specs.Sound.{IsSound};
-ghost use Rattle.emh_shell.specs.Objects.{name_or_number, module_word, net_word, inst_word, new_name, path_of, number_of, word_at, object_text, rule_line};
+ghost use Rattle.emh_shell.specs.Objects.{name_or_number, module_word, net_word, inst_word, new_name, path_of, number_of, word_at, word_line, object_text, rule_line};
 
 use crate::printing::{number_object, refused_line, word_object};
 use emh_base::{
@@ -23,6 +23,14 @@ pub fn word_at(line: &Line, place: u32) -> &[u8]
         None => &[],
         Some(word) => word.as_slice(),
     }
+}
+
+/// The line that is printed where a cause of that code refuses it, because of its word at that place.
+pub fn word_line(alloc: Global, line: &Line, code: u32, place: u32) -> Result<List<u8>, NoMemory>
+    ensures { IfOk result (λ text. text ≡ word_line line.now code place) }
+{
+    let object = word_object(alloc, word_at(line, place))?;
+    refused_line(alloc, line.number, code, object.as_slice())
 }
 
 /// The line that is printed where a rule refuses it, by the names that ids have in a table.

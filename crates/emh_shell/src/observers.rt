@@ -6,8 +6,8 @@ ghost use Rattle.emh_shell.specs.Observers.{mark_answer};
 ghost use Rattle.emh_shell.specs.inside.Telling.{Tells};
 
 use crate::answer::Told;
-use crate::objects::word_at;
-use crate::printing::{ok_line, refused_line, word_object};
+use crate::objects::word_line;
+use crate::printing::ok_line;
 use emh_base::{Name, NoMemory};
 use emh_session::{NoSuchObserver, Observer, Session};
 use script_read::Line;
@@ -30,11 +30,7 @@ pub fn mark(
 {
     match set_marks(name.as_bytes(), on, session, watch) {
         Ok(()) => Ok(Told::Accepted(ok_line(alloc, line.number)?)),
-        Err(NoSuchObserver) => {
-            let object = word_object(alloc, word_at(line, 1))?;
-            let text = refused_line(alloc, line.number, 36, object.as_slice())?;
-            Ok(Told::Refused(text))
-        }
+        Err(NoSuchObserver) => Ok(Told::Refused(word_line(alloc, line, 36, 1)?)),
     }
 }
 

@@ -10,18 +10,18 @@ ghost use Rattle.emh_shell.specs.Run.{Played, WholeAtFetch, WholeAtStore, Cut, Q
 ghost use Rattle.emh_shell.specs.inside.Ends.{Ends, FaultEnds};
 
 use crate::fault::Halt;
+use crate::printing::bad_line;
 use crate::progress::Progress;
-use crate::script::{bad_line, read_script};
 use crate::step::step;
 use command_line::ask;
 use emh_io::{FetchFault, Shelf, Sink, put_all};
 use emh_session::Observer;
-use script_read::{Line, ScriptFault};
+use script_read::{Line, ScriptFault, script};
 use std::alloc::Global;
 
-/// Runs the script that the words ask for, `[--budget N] SCRIPT`, over a shelf of files, and prints all that it says to a
-/// sink. The observers, at most 64, are told of each edit where a line has enabled them; they may add so many changes to
-/// it as the budget says.
+/// Runs the script that the words ask for, `[--budget N] SCRIPT`, over a shelf of files, and prints
+/// all that it says to a sink. The observers, at most 64, are told of each edit where a line has
+/// enabled them; they may add so many changes to it as the budget says.
 ///
 /// The status is 0 where each line was accepted and 1 where one was refused; 2 where the words ask for nothing or the
 /// bytes are no script, and then nothing is run; 3 where a file can't be fetched; 4 where a file can't be stored or the
@@ -111,7 +111,7 @@ fn run_named<F: Shelf, K: Sink>(
         (F.told shelf.old) (F.told shelf.new) (K.told out.old) (K.told out.new) result }
 {
     match shelf.fetch(name) {
-        Ok(script) => run_script(alloc, budget, script.as_slice(), shelf, out, watch),
+        Ok(bytes) => run_script(alloc, budget, bytes.as_slice(), shelf, out, watch),
         Err(FetchFault::TooLong) => print_fault(out, b"script too long\n".as_slice()),
         Err(FetchFault::Failed) => Err(Halt::Fetch),
         Err(FetchFault::Missing) => Err(Halt::Fetch),
@@ -123,7 +123,7 @@ fn run_named<F: Shelf, K: Sink>(
 fn run_script<F: Shelf, K: Sink>(
     alloc: Global,
     budget: u32,
-    script: &[u8],
+    bytes: &[u8],
     shelf: &mut F,
     out: &mut K,
     watch: &[Box<dyn Observer>],
@@ -131,11 +131,11 @@ fn run_script<F: Shelf, K: Sink>(
     requires few { length watch.now ≤ 64 }
     requires budget { budget ≤ 100000 }
     ensures { (words : List (List ℕ)) (ask : Asked) → asked words ≡ Some ask → ask.budget ≡ budget
-        → Gives (F.told shelf.old).holds ask.script (Ok script.now)
+        → Gives (F.told shelf.old).holds ask.script (Ok bytes.now)
         → Ends (watched (λ b. called b) (λ b. wants b) watch.now) words
         (F.told shelf.old) (F.told shelf.new) (K.told out.old) (K.told out.new) result }
 {
-    match read_script(alloc, script) {
+    match script(alloc, bytes) {
         Ok(lines) => run_lines(alloc, budget, lines.as_slice(), shelf, out, watch),
         Err(ScriptFault::NoMemory) => Err(Halt::NoMemory),
         Err(ScriptFault::TooManyLines) => {

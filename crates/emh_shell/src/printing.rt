@@ -1,8 +1,9 @@
 //! What a line of a script prints first.
 ghost use Rattle.std.specs.Prelude.{◌≡◌, ◌++◌, IfOk};
-ghost use Rattle.emh_shell.specs.Printing.{ok_line, edit_line, refused_line, word_object, number_object, module_object, place_object, text_object};
+ghost use Rattle.emh_shell.specs.Printing.{ok_line, edit_line, refused_line, word_object, number_object, module_object, place_object, text_object, fault_line};
 
 use emh_base::{List, Name, NoMemory, push_number, push_spelled};
+use script_read::ScriptFault;
 use std::alloc::Global;
 use word_table::cause_name;
 
@@ -91,5 +92,15 @@ pub fn text_object(alloc: Global, at: u32, there: &[u8]) -> Result<List<u8>, NoM
     let mut text = place_object(alloc, at)?;
     text.push(b' ')?;
     text.extend(there)?;
+    Ok(text)
+}
+
+/// The line that names the first bad line of a script.
+pub fn bad_line(alloc: Global, line: u32) -> Result<List<u8>, NoMemory>
+    ensures { IfOk result (λ text. text ≡ fault_line (ScriptFault.BadLine line)) }
+{
+    let mut text = List::from_slice(alloc, b"bad line ")?;
+    push_number(&mut text, u64::from(line))?;
+    text.push(b'\n')?;
     Ok(text)
 }

@@ -1,9 +1,11 @@
-ghost use Rattle.std.specs.Prelude.{◌≡◌, ◌≤◌};
+ghost use Rattle.std.specs.Prelude.{◌≡◌, ◌≤◌, OnOk};
 ghost use Rattle.std.specs.Option.{option_copied};
 ghost use Rattle.flatten_rules.specs.Sound.{IsSound};
-ghost use Rattle.emh_shell.specs.Progress.{at_first, refusing};
+ghost use Rattle.emh_shell.specs.Progress.{at_first, refusing, opening};
+ghost use Rattle.emh_shell.specs.inside.Replies.{IsFresh};
 
-use emh_base::{List, Plain};
+use desk::Desk;
+use emh_base::{List, NoMemory, Plain};
 use emh_session::Session;
 use std::alloc::Global;
 use std::marker::Model;
@@ -103,5 +105,15 @@ impl Progress {
         ensures { self.new ≡ record self.old { library = library } }
     {
         self.library = library;
+    }
+
+    /// Begins a session on a design, on which nothing was done yet, in place of the one that was open.
+    pub(crate) fn open(&mut self, alloc: Global, desk: Desk) -> Result<(), NoMemory>
+        requires { IsFresh desk }
+        ensures ok { OnOk result (self.new ≡ opening self.old desk.state) }
+        ensures watchers { self.new.watchers ≡ self.old.watchers }
+    {
+        self.session = Some(Session::open(alloc, desk, self.budget, self.watchers)?);
+        Ok(())
     }
 }

@@ -1,10 +1,12 @@
 //! Why a line that reads a netlist is refused, in print.
 ghost use Rattle.std.specs.Prelude.{◌≡◌, IfOk};
-ghost use Rattle.emh_shell.specs.Printing.{refused_line};
+ghost use Rattle.emh_shell.specs.Printing.{refused_line, module_object};
+ghost use Rattle.edit_rules.specs.Opening.{open_code};
 ghost use Rattle.emh_shell.specs.Faults.{lex_object, parse_object, elab_object, elab_fault_code, read_code, read_object, file_code, file_object, design_code, design_object};
 
 use crate::fault::{DesignFault, FileFault};
 use crate::printing::{module_object, place_object, refused_line, text_object, word_object};
+use edit_rules::OpenFault;
 use emh_base::{List, Name, NoMemory, push_spelled};
 use std::alloc::Global;
 use vlog_elab::{ElabFault, ReadFault};
@@ -25,12 +27,23 @@ impl DesignFault {
     {
         match self {
             DesignFault::File(fault) => fault.line(alloc, number, file),
-            DesignFault::Opening(fault) => {
-                let object = module_object(alloc, top)?;
-                refused_line(alloc, number, fault.code(), object.as_slice())
-            }
+            DesignFault::Opening(fault) => opening_line(alloc, number, top, fault),
         }
     }
+}
+
+/// The line that is printed of a table that isn't opened at a top.
+pub fn opening_line(
+    alloc: Global,
+    number: u32,
+    top: &Name,
+    fault: &OpenFault,
+) -> Result<List<u8>, NoMemory>
+    ensures { IfOk result (λ text. text
+        ≡ refused_line number (open_code fault.now) (module_object top.now)) }
+{
+    let object = module_object(alloc, top)?;
+    refused_line(alloc, number, fault.code(), object.as_slice())
 }
 
 impl FileFault {

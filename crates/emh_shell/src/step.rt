@@ -5,6 +5,7 @@ ghost use Rattle.emh_shell.specs.inside.Ends.{LineEnds};
 
 use crate::answer::answer;
 use crate::fault::Halt;
+use crate::made::generate;
 use crate::netlists::{cells, compare, load, write};
 use crate::progress::Progress;
 use emh_base::List;
@@ -35,7 +36,11 @@ pub fn step<F: Shelf>(
         Command::Compare { file, top } => {
             compare(alloc, line, file.as_slice(), top, progress, shelf)
         }
-        Command::Generate { .. } | Command::Churn { .. } => Ok(List::new(alloc)),
+        Command::Generate {
+            seed,
+            modules,
+            width,
+        } => Ok(generate(alloc, line, *seed, *modules, *width, progress)?),
         _ => Ok(answer(alloc, line, progress, watch)?),
     }
 }

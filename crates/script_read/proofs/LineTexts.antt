@@ -26,7 +26,7 @@ use Rattle.script_read.specs.Text.{pair_text, range_text, select_text, bit_text,
 use Rattle.script_read.specs.declared.command.BitWord.{BitWord}
 use Rattle.script_read.specs.declared.command.BitWord.TheVariants.{Zero, One, Net}
 use Rattle.script_read.proofs.WordTexts.{decimal_digits}
-use Rattle.script_read.proofs.Table.{command_is_writable, command_is_built}
+use Rattle.script_read.proofs.Table.{command_is_writable}
 use Rattle.script_read.proofs.Written.{written}
 
 -- a word of a line: some bytes, each 33 to 126
@@ -279,7 +279,7 @@ pub each_line_reads : (line : List ℕ) (words : List (List ℕ)) (of : Command)
     → line_says (line_text of) ≡ Asks (words_by of) of
 each_line_reads line words of same =
     let is = command_is_writable (words_in (without_return line)) of (asks_some line words of same) in
-    line_of_words (words_by of) of (headed of) (fields_plain (fields_of of) is) (written of is (command_is_built (words_in (without_return line)) of (asks_some line words of same)))
+    line_of_words (words_by of) of (headed of) (fields_plain (fields_of of) is) (written of is)
 
 pub text_reads : (of : Command) (text : List ℕ) → text ≡ line_text of → (line : List ℕ) (words : List (List ℕ))
     → line_says line ≡ Asks words of → line_says text ≡ Asks (words_by of) of

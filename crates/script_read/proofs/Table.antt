@@ -6,7 +6,7 @@ use Rattle.script_read.specs.declared.command.Command.{Command}
 use Rattle.script_read.specs.declared.command.Command.TheVariants as command
 use Rattle.script_read.specs.Word.{file_of, name_of, number_of, signed_of, path_of, dir_of, orient_of, status_of, range_of}
 use Rattle.script_read.specs.Form.{Form, next, maybe, done, Row}
-use Rattle.script_read.specs.Table.{netlist_rows, form_in, place_form, placement_form, height_form, standing_form, says_of, is_built, when_built, command_of}
+use Rattle.script_read.specs.Table.{netlist_rows, form_in, place_form, placement_form, height_form, standing_form, command_of}
 use Rattle.script_read.specs.Written.{IsWritable, IsSigned}
 use Rattle.script_read.proofs.Forms.{Gives, IsNumber, next_gives, done_gives, maybe_gives, bits_give, name_form_gives, two_names_give, three_names_give, report_gives, name_says, file_says, number_says, signed_says, path_says}
 
@@ -146,23 +146,7 @@ form_in_gives [] are first words out same = absurd (cc)
 form_in_gives (row ∷ table) are first words out same =
     by_test (bytes_eq first row.0) (row.1 words) (form_in table first words) out (are.0 words out) (form_in_gives table are.1 first words out) same
 
-says_is_writable : Gives says_of
-says_is_writable [] out same = absurd (cc)
-says_is_writable (first ∷ words) out same = form_in_gives netlist_rows gives_rows first words out same
-
-by_built : (test : Bool) (of out : Command) → is_built of ≡ test → (if test then Some of else None) ≡ Some out
-    → (of ≡ out) × (is_built out ≡ true)
-by_built true of out built same = let e : of ≡ out = cc in (e, ap is_built (sym e) ∙ built)
-by_built false of out built same = absurd (cc)
-
-built_some : (read : Option Command) (out : Command) → option_and_then when_built read ≡ Some out
-    → (read ≡ Some out) × (is_built out ≡ true)
-built_some None out same = absurd (cc)
-built_some (Some of) out same = let both = by_built (is_built of) of out refl same in (ap Some both.0, both.1)
-
--- what the words of a line ask for can be written, and is built
+-- what the words of a line ask for can be written
 pub command_is_writable : Gives command_of
-command_is_writable words out same = says_is_writable words out (built_some (says_of words) out same).0
-
-pub command_is_built : (words : List (List ℕ)) (out : Command) → command_of words ≡ Some out → is_built out ≡ true
-command_is_built words out same = (built_some (says_of words) out same).1
+command_is_writable [] out same = absurd (cc)
+command_is_writable (first ∷ words) out same = form_in_gives netlist_rows gives_rows first words out same

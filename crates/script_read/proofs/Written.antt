@@ -18,7 +18,7 @@ use Rattle.script_read.specs.declared.command.Command.{Command}
 use Rattle.script_read.specs.declared.command.Command.TheVariants as command
 use Rattle.script_read.specs.Word.{is_digit, number_within, signed_of, minus, file_of, dir_of, orient_of, status_of, pieces, net_bit_of, net_bit_after, net_bit_in}
 use Rattle.script_read.specs.Form.{bits_of}
-use Rattle.script_read.specs.Table.{says_of, is_built, command_of}
+use Rattle.script_read.specs.Table.{command_of}
 use Rattle.script_read.specs.Text.{bit_text, orient_text, status_text, index_text, net_bit_text}
 use Rattle.script_read.specs.Written.{IsBitWord}
 use Rattle.script_read.specs.Written.{IsWritable, IsSigned, IsIndex, words_by}
@@ -114,50 +114,47 @@ net_bit_reads : (path : List (List ℕ)) (net : List ℕ) (index : Option ℕ) �
 net_bit_reads path net index are is fits =
     ap (net_bit_after []) (path_pieces path net index fits) ∙ after_reads [] path net index are is fits
 
-by_table : (of : Command) → IsWritable of → says_of (words_by of) ≡ Some of
-by_table (command.Load f n) is = rw (file_reads f is.1.0, spelled_name n is.1.1.0) refl
-by_table (command.Cells f) is = rw (file_reads f is.1.0) refl
-by_table (command.Write f) is = rw (file_reads f is.1.0) refl
-by_table (command.Compare f n) is = rw (file_reads f is.1.0, spelled_name n is.1.1.0) refl
-by_table (command.Generate a b c) is = rw (number_reads a is.1.0, number_reads b is.1.1.0, number_reads c is.1.1.1.0) refl
-by_table (command.Churn a b) is = rw (number_reads a is.1.0, number_reads b is.1.1.0) refl
-by_table command.Undo is = refl
-by_table command.Redo is = refl
-by_table (command.Observe n) is = rw (spelled_name n is.1.0) refl
-by_table (command.Ignore n) is = rw (spelled_name n is.1.0) refl
-by_table (command.Report report.Pins) is = refl
-by_table (command.Report report.Block) is = refl
-by_table (command.Report report.Occurrences) is = refl
-by_table (command.Report report.Modules) is = refl
-by_table (command.Report report.Counts) is = refl
-by_table (command.Report report.Log) is = refl
-by_table (command.Report (report.Net path net index)) is = rw (net_bit_reads path net index is.1.1.0.0 is.1.1.0.1 is.1.1.0.2) refl
-by_table (command.Report (report.Where n)) is = rw (spelled_name n is.1.1.0) refl
-by_table (command.CreateModule n) is = rw (spelled_name n is.1.0) refl
-by_table (command.DeleteModule n) is = rw (spelled_name n is.1.0) refl
-by_table (command.CreateNet m n None) is = rw (spelled_name m is.1.0, spelled_name n is.1.1.0) refl
-by_table (command.CreateNet m n (Some r)) is = rw (spelled_name m is.1.0, spelled_name n is.1.1.0, range_reads r is.1.1.1.0) refl
-by_table (command.DeleteNet m n) is = rw (spelled_name m is.1.0, spelled_name n is.1.1.0) refl
-by_table (command.CreatePort m n d None) is = rw (spelled_name m is.1.0, spelled_name n is.1.1.0, dir_reads d) refl
-by_table (command.CreatePort m n d (Some r)) is = rw (spelled_name m is.1.0, spelled_name n is.1.1.0, dir_reads d, range_reads r is.1.1.1.1.0) refl
-by_table (command.DeletePort m n) is = rw (spelled_name m is.1.0, spelled_name n is.1.1.0) refl
-by_table (command.CreateInst a b c) is = rw (spelled_name a is.1.0, spelled_name b is.1.1.0, spelled_name c is.1.1.1.0) refl
-by_table (command.DeleteInst m n) is = rw (spelled_name m is.1.0, spelled_name n is.1.1.0) refl
-by_table (command.Connect a b c []) is = absurd is.1.1.1.1.0
-by_table (command.Connect a b c (bit ∷ bits)) is =
+pub written : (of : Command) → IsWritable of → command_of (words_by of) ≡ Some of
+written (command.Load f n) is = rw (file_reads f is.1.0, spelled_name n is.1.1.0) refl
+written (command.Cells f) is = rw (file_reads f is.1.0) refl
+written (command.Write f) is = rw (file_reads f is.1.0) refl
+written (command.Compare f n) is = rw (file_reads f is.1.0, spelled_name n is.1.1.0) refl
+written (command.Generate a b c) is = rw (number_reads a is.1.0, number_reads b is.1.1.0, number_reads c is.1.1.1.0) refl
+written (command.Churn a b) is = rw (number_reads a is.1.0, number_reads b is.1.1.0) refl
+written command.Undo is = refl
+written command.Redo is = refl
+written (command.Observe n) is = rw (spelled_name n is.1.0) refl
+written (command.Ignore n) is = rw (spelled_name n is.1.0) refl
+written (command.Report report.Pins) is = refl
+written (command.Report report.Block) is = refl
+written (command.Report report.Occurrences) is = refl
+written (command.Report report.Modules) is = refl
+written (command.Report report.Counts) is = refl
+written (command.Report report.Log) is = refl
+written (command.Report (report.Net path net index)) is = rw (net_bit_reads path net index is.1.1.0.0 is.1.1.0.1 is.1.1.0.2) refl
+written (command.Report (report.Where n)) is = rw (spelled_name n is.1.1.0) refl
+written (command.CreateModule n) is = rw (spelled_name n is.1.0) refl
+written (command.DeleteModule n) is = rw (spelled_name n is.1.0) refl
+written (command.CreateNet m n None) is = rw (spelled_name m is.1.0, spelled_name n is.1.1.0) refl
+written (command.CreateNet m n (Some r)) is = rw (spelled_name m is.1.0, spelled_name n is.1.1.0, range_reads r is.1.1.1.0) refl
+written (command.DeleteNet m n) is = rw (spelled_name m is.1.0, spelled_name n is.1.1.0) refl
+written (command.CreatePort m n d None) is = rw (spelled_name m is.1.0, spelled_name n is.1.1.0, dir_reads d) refl
+written (command.CreatePort m n d (Some r)) is = rw (spelled_name m is.1.0, spelled_name n is.1.1.0, dir_reads d, range_reads r is.1.1.1.1.0) refl
+written (command.DeletePort m n) is = rw (spelled_name m is.1.0, spelled_name n is.1.1.0) refl
+written (command.CreateInst a b c) is = rw (spelled_name a is.1.0, spelled_name b is.1.1.0, spelled_name c is.1.1.1.0) refl
+written (command.DeleteInst m n) is = rw (spelled_name m is.1.0, spelled_name n is.1.1.0) refl
+written (command.Connect a b c []) is = absurd is.1.1.1.1.0
+written (command.Connect a b c (bit ∷ bits)) is =
     rw (spelled_name a is.1.0, spelled_name b is.1.1.0, spelled_name c is.1.1.1.0, bit_reads bit is.1.1.1.1.0.0, bits_read bits is.1.1.1.1.0.1) refl
-by_table (command.Disconnect a b c) is = rw (spelled_name a is.1.0, spelled_name b is.1.1.0, spelled_name c is.1.1.1.0) refl
-by_table (command.RenameModule m n) is = rw (spelled_name m is.1.0, spelled_name n is.1.1.0) refl
-by_table (command.RenameNet a b c) is = rw (spelled_name a is.1.0, spelled_name b is.1.1.0, spelled_name c is.1.1.1.0) refl
-by_table (command.RenameInst a b c) is = rw (spelled_name a is.1.0, spelled_name b is.1.1.0, spelled_name c is.1.1.1.0) refl
-by_table (command.Resize a b c) is = rw (spelled_name a is.1.0, spelled_name b is.1.1.0, spelled_name c is.1.1.1.0) refl
-by_table (command.Uniquify a b c) is = rw (spelled_name a is.1.0, spelled_name b is.1.1.0, spelled_name c is.1.1.1.0) refl
-by_table (command.Place p x y o s) is = rw (path_reads p is.1.0, signed_reads x is.1.1.0, signed_reads y is.1.1.1.0, orient_reads o, status_reads s) refl
-by_table (command.Unplace p) is = rw (path_reads p is.1.0) refl
-by_table (command.Lock n) is = rw (spelled_name n is.1.0) refl
-by_table (command.Unlock n) is = rw (spelled_name n is.1.0) refl
-by_table (command.SetFanout a n) is = rw (number_reads a is.1.0, spelled_name n is.1.1.0) refl
-by_table (command.SetGrid a) is = rw (number_reads a is.1.0) refl
-
-pub written : (of : Command) → IsWritable of → is_built of ≡ true → command_of (words_by of) ≡ Some of
-written of is built = rw (by_table of is, built) refl
+written (command.Disconnect a b c) is = rw (spelled_name a is.1.0, spelled_name b is.1.1.0, spelled_name c is.1.1.1.0) refl
+written (command.RenameModule m n) is = rw (spelled_name m is.1.0, spelled_name n is.1.1.0) refl
+written (command.RenameNet a b c) is = rw (spelled_name a is.1.0, spelled_name b is.1.1.0, spelled_name c is.1.1.1.0) refl
+written (command.RenameInst a b c) is = rw (spelled_name a is.1.0, spelled_name b is.1.1.0, spelled_name c is.1.1.1.0) refl
+written (command.Resize a b c) is = rw (spelled_name a is.1.0, spelled_name b is.1.1.0, spelled_name c is.1.1.1.0) refl
+written (command.Uniquify a b c) is = rw (spelled_name a is.1.0, spelled_name b is.1.1.0, spelled_name c is.1.1.1.0) refl
+written (command.Place p x y o s) is = rw (path_reads p is.1.0, signed_reads x is.1.1.0, signed_reads y is.1.1.1.0, orient_reads o, status_reads s) refl
+written (command.Unplace p) is = rw (path_reads p is.1.0) refl
+written (command.Lock n) is = rw (spelled_name n is.1.0) refl
+written (command.Unlock n) is = rw (spelled_name n is.1.0) refl
+written (command.SetFanout a n) is = rw (number_reads a is.1.0, spelled_name n is.1.1.0) refl
+written (command.SetGrid a) is = rw (number_reads a is.1.0) refl

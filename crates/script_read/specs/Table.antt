@@ -1,5 +1,5 @@
 -- The table of lines: for each first word, the form of the words behind it. A further command is a form and a row here.
-use Rattle.std.specs.Prelude.{ℕ, ℤ, Bool, true, false, List, [], ◌∷◌, Option, Some, None, option_and_then, if◌then◌else◌, codes, bytes_eq}
+use Rattle.std.specs.Prelude.{ℕ, ℤ, Bool, true, false, List, [], ◌∷◌, Option, Some, None, if◌then◌else◌, codes, bytes_eq}
 use Rattle.emh_base.specs.declared.report.Kind.TheVariants as report
 use Rattle.script_read.specs.declared.command.Command.{Command}
 use Rattle.script_read.specs.declared.command.Command.TheVariants as command
@@ -236,20 +236,7 @@ abbrev pub form_in : List Row → List ℕ → Form
 form_in [] first words = None
 form_in (row ∷ rows) first words = if bytes_eq first row.0 then row.1 words else form_in rows first words
 
--- what words say by the whole table
-abbrev pub says_of : Form
-says_of [] = None
-says_of (first ∷ words) = form_in netlist_rows first words
-
--- the commands of the table that aren't built yet: a line that says one is outside the grammar
-abbrev pub is_built : Command → Bool
-is_built (command.Generate seed modules width) = false
-is_built (command.Churn seed turns) = false
-is_built _ = true
-
-abbrev pub when_built : Command → Option Command
-when_built of = if is_built of then Some of else None
-
--- what a line's words ask for
+-- what a line's words ask for, by the whole table
 abbrev pub command_of : Form
-command_of words = option_and_then when_built (says_of words)
+command_of [] = None
+command_of (first ∷ words) = form_in netlist_rows first words

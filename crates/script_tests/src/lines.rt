@@ -11,6 +11,8 @@ const LINES: &[(&[u8], &[u8])] = &[
     (b"cells lib/cells.v", b"cells lib/cells.v"),
     (b"write =x", b"write =x"),
     (b"compare ./o.v t\\.u", b"compare ./o.v t\\.u"),
+    (b"generate 05 0 4294967295", b"generate 5 0 4294967295"),
+    (b"churn 4294967295 00010000", b"churn 4294967295 10000"),
     (b"undo", b"undo"),
     (b"redo", b"redo"),
     (b"observe restless", b"observe restless"),

@@ -16,7 +16,7 @@ returns-in-Err-Missing g c = λ words asks.
 pub returns-in-Ok : goal.returns-in-Ok
 returns-in-Ok g c = λ words asks.
     let kept = c.in-Ok.ensures in
-    Ends-after _ words (g.F.Shelf.told c.args.shelf.now) (g.F.Shelf.told c.fetch.new.self) (g.F.Shelf.told c.run_script.new.shelf) (g.K.Sink.told c.args.out.now) (g.K.Sink.told c.run_script.new.out) c.run_script.result kept.kept (kept.cause.0, kept.stores) (c.run_script.ensures words _ asks refl (rw (kept.kept, c.as_slice.ensures) (Gives-fetched (g.F.Shelf.told c.args.shelf.now).holds c.args.name.now c.in-Ok.script kept.told)))
+    Ends-after _ words (g.F.Shelf.told c.args.shelf.now) (g.F.Shelf.told c.fetch.new.self) (g.F.Shelf.told c.run_script.new.shelf) (g.K.Sink.told c.args.out.now) (g.K.Sink.told c.run_script.new.out) c.run_script.result kept.kept (kept.cause.0, kept.stores) (c.run_script.ensures words _ asks refl (rw (kept.kept, c.as_slice.ensures) (Gives-fetched (g.F.Shelf.told c.args.shelf.now).holds c.args.name.now c.in-Ok.bytes kept.told)))
 
 pub returns-in-Err-TooLong : goal.returns-in-Err-TooLong
 returns-in-Err-TooLong g c = λ words asks.

@@ -8,7 +8,7 @@ pub returns-in-Ok : goal.returns-in-Ok
 returns-in-Ok g c = λ words ask asks under gives.
     c.run_lines.ensures words (record {
       ask = ask;
-      bytes = c.args.script.now;
+      bytes = c.args.bytes.now;
       asks = asks;
       gives = gives;
       read = rw c.as_slice.ensures c.in-Ok.ensures;
@@ -28,7 +28,7 @@ pub returns-in_ok-text-in-Err-BadLine : goal.returns-in_ok-text-in-Err-BadLine
 returns-in_ok-text-in-Err-BadLine g c = λ words ask asks under gives.
     Ends-fault _ words (g.F.Shelf.told c.args.shelf.now) (g.F.Shelf.told c.args.shelf.now) (g.K.Sink.told c.args.out.now) (g.K.Sink.told c.print_fault-in-Err-BadLine.new.out) c.as_slice-in-Err-BadLine.result.now c.print_fault-in-Err-BadLine.result
     (Faulty-ask (g.F.Shelf.told c.args.shelf.now).holds words ask _ asks (inr (record {
-      bytes = c.args.script.now;
+      bytes = c.args.bytes.now;
       gives = gives;
       fault = BadLine c.in-Err-BadLine.line;
       read = rw c.in-Err-BadLine.field-0-is at c.in-Err-BadLine.ensures;
