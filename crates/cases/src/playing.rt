@@ -1,11 +1,15 @@
 //! A case file, played from its first section to its last.
+ghost use Rattle.std.specs.Prelude.{◌≤◌, IsTrue};
+ghost use Rattle.emh_io.specs.Held.{files_of, are_distinct};
+
 use crate::case::Case;
 use crate::fault::CaseFault;
 use crate::section::Sections;
 use crate::tally::Tally;
-use crate::trying::try_case;
+use crate::trying::{Faults, Wanted, try_case};
 use crate::verdict::Verdict;
-use emh_io::are_distinct;
+use emh_base::{List, NoMemory};
+use emh_io::{Held, are_distinct};
 use emh_session::Observer;
 use std::alloc::Global;
 use std::io;
@@ -36,7 +40,6 @@ pub fn play_cases<R: Runtime + AllocGlobal>(
     Ok(())
 }
 
-/// Plays a case with the observers of the program.
 fn play_case(alloc: Global, case: &Case<'_>, status: u8) -> Result<Verdict, CaseFault> {
     let files = case.files()?;
     if !are_distinct(files.as_slice()) {
@@ -45,11 +48,25 @@ fn play_case(alloc: Global, case: &Case<'_>, status: u8) -> Result<Verdict, Case
     let words = case.words()?;
     let faults = case.faults()?;
     let wanted = case.wanted(status)?;
+    Ok(try_watched(alloc, files, words.as_slice(), faults, &wanted)?)
+}
+
+/// Tries a case with the observers of the program.
+fn try_watched(
+    alloc: Global,
+    files: List<Held>,
+    words: &[String],
+    faults: Faults,
+    wanted: &Wanted<'_>,
+) -> Result<Verdict, NoMemory>
+    requires distinct { IsTrue (are_distinct (files_of files)) }
+    requires most { 1 ≤ faults.most }
+{
     let sweep: Box<dyn Observer> = Box::new(alloc, Sweep::new(alloc))?;
     let snap: Box<dyn Observer> = Box::new(alloc, Snap::new(alloc))?;
     let restless: Box<dyn Observer> = Box::new(alloc, Restless::new(alloc))?;
     let watch = [sweep, snap, restless];
-    Ok(try_case(alloc, files, words.as_slice(), faults, &wanted, &watch))
+    Ok(try_case(alloc, files, words, faults, wanted, &watch))
 }
 
 /// Counts a case, and prints where it differs. The place is a line of the case file.
