@@ -4,6 +4,8 @@
 mod laws;
 mod made;
 mod random;
+mod turns;
 
 pub use laws::{each_made_table_is_sound, worked_designs};
 pub use made::{generate, top_name};
+pub use turns::{Turned, turn};

@@ -7,7 +7,10 @@ mod restless;
 mod snap;
 mod sweep;
 
-pub use laws::worked_answers;
+pub use laws::{
+    each_answer_keeps_the_limit, each_connect_keeps_the_limit, each_split_ends_at_the_limit,
+    each_split_leaves_other_bits, worked_answers,
+};
 pub use restless::Restless;
 pub use snap::Snap;
 pub use sweep::Sweep;

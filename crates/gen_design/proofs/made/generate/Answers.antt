@@ -3,7 +3,7 @@ use Rattle.std.specs.List.{range_with_len}
 use Rattle.emh_base.specs.declared.plain.PModule.{PModule}
 use Rattle.emh_base.specs.declared.plain.Plain.{Plain}
 use Rattle.flatten_rules.specs.Sound.{IsSound}
-use Rattle.gen_design.specs.Made.{inverter, made_module, made}
+use Rattle.gen_design.specs.Made.{inverter, made_module}
 use Rattle.gen_design.proofs.Draws.{three-drawn, drawn-module, module-more}
 use Rattle.gen_design.proofs.Sound.{made-is-sound}
 use Rattle.gen_design.proofs.made.generate.Goals as goal

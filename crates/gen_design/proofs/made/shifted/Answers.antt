@@ -1,6 +1,5 @@
 use Rattle.std.proofs.Common.{◌≡◌, map, ap, ◌∙◌, arith}
 use Rattle.std.specs.List.{range_with_len}
-use Rattle.emh_base.specs.declared.plain.Src.{Src}
 use Rattle.emh_base.specs.declared.plain.Src.TheVariants.{Bit}
 use Rattle.emh_base.specs.declared.plain.Conn.TheVariants.{Bits}
 use Rattle.gen_design.specs.Made.{shifted_offset}
