@@ -49,7 +49,7 @@ module _ (M : Plain) (m : ModId) (f : PModule → PModule) (ids : (h : PModule) 
       each-mapped M (changed m f) (changed-keeps (λ y. y.id) m f ids) (λ new old. ports_of new ≡ ports_of old) refl (λ h own. changed-keeps (λ y. y.ports) m f same h) x
 
 module _ (M N : Plain) (same : (x : ModId) → ports_of (module_of N x) ≡ ports_of (module_of M x)) where
-  pub joins-same : (x : PInst) → joins_of N x ≡ joins_of M x
+  joins-same : (x : PInst) → joins_of N x ≡ joins_of M x
   joins-same x = ap (λ ps. map (join x.id) (zip ps x.conns)) (same x.master)
 
   pub all-same : (xs : List PInst) → flat_map (joins_of N) xs ≡ flat_map (joins_of M) xs

@@ -49,7 +49,7 @@ gone-step true c new src other is = ap one other
 gone-step false c new src other is = ap one (sym is)
 
 -- where the new source isn't b, of the bits that are b only the first ones are left
-pub hits-moved : (b : BitOf) (new : Src) → is_bit b new ≡ false → (bits : List Src) (stay : ℕ) → hits b (moved b new stay bits) ≡ min stay (hits b bits)
+hits-moved : (b : BitOf) (new : Src) → is_bit b new ≡ false → (bits : List Src) (stay : ℕ) → hits b (moved b new stay bits) ≡ min stay (hits b bits)
 hits-moved b new other [] zero = refl
 hits-moved b new other [] (suc stay) = omega arith
 hits-moved b new other (src ∷ more) zero =
@@ -127,7 +127,7 @@ module _ (b c : BitOf) (new : Src) (other : is_bit c (Bit b.net b.offset) ≡ fa
 
 -- Moves as they are made, one after the other.
 
-abbrev pub same_key : Join → Join → Bool
+abbrev same_key : Join → Join → Bool
 same_key k j = (k.inst.0 == j.inst.0) && (k.port.0 == j.port.0)
 
 abbrev pub rejoined : InstId → NetId → Conn → Join → Join
@@ -153,7 +153,7 @@ key-own : (a b : ℕ) → ((a == a) && (b == b)) ≡ true
 key-own a b = grind (arith, nat_tests)
 
 -- what is changed elsewhere
-pub rejoined-other : (j : Join) (conn : Conn) (ks : List Join) → Differs j ks → map (rejoined j.inst j.port conn) ks ≡ ks
+rejoined-other : (j : Join) (conn : Conn) (ks : List Join) → Differs j ks → map (rejoined j.inst j.port conn) ks ≡ ks
 rejoined-other j conn [] differs = refl
 rejoined-other j conn (k ∷ ks) differs =
     ap₂ (λ (x : Join) (xs : List Join). x ∷ xs) (ap (λ c. cond c (record k { conn = conn }) k) differs.0) (rejoined-other j conn ks differs.1)

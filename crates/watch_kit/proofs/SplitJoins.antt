@@ -164,17 +164,17 @@ bits_to u ports b new =
 abbrev port : NetId → Dir → PPort
 port net dir = record { net = net; dir = dir }
 
-abbrev pub taking : InstId → NetId → BitOf → Join
+abbrev taking : InstId → NetId → BitOf → Join
 taking u p b = record { inst = u; port = p; dir = Input; conn = Bits (Bit b.net b.offset ∷ []) }
 
-abbrev pub driving : InstId → NetId → Src → Join
+abbrev driving : InstId → NetId → Src → Join
 driving u p new = record { inst = u; port = p; dir = Output; conn = Bits (new ∷ []) }
 
 -- one of the two takes b, and the other drives the new source
 abbrev pub IsBuffer : InstId → NetId → NetId → BitOf → Src → List Join → Type 0
 IsBuffer u na nb b new js = (js ≡ taking u na b ∷ driving u nb new ∷ []) ⊎ (js ≡ driving u na new ∷ taking u nb b ∷ [])
 
-pub own : (n : ℕ) → (n == n) ≡ true
+own : (n : ℕ) → (n == n) ≡ true
 own n = grind (arith, nat_tests)
 
 pub is-buffer : (u : InstId) (b : BitOf) (new : Src) (na nb : NetId) (da db : Dir) → goes_through da db ≡ true → (na.0 == nb.0) ≡ false → IsBuffer u na nb b new (bits_to u (port na da ∷ port nb db ∷ []) b new)

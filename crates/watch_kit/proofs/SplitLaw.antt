@@ -113,7 +113,7 @@ module _ (h : PModule) (b : BitOf) (absent : net_of h b.net ≡ None) where
       by_cases None fits = absurd fits
       by_cases (Some master) fits = no-weight master x.id master.ports x.conns fits
 
-pub sinks-weight : (M : Plain) (m : ModId) (b : BitOf) → length (sinks M m b) ≡ sum_by (weight b) (joins M m)
+sinks-weight : (M : Plain) (m : ModId) (b : BitOf) → length (sinks M m b) ≡ sum_by (weight b) (joins M m)
 sinks-weight M m b = length-flat_map (sinks_at b) (joins M m)
 
 -- the counter's net is no net of the module yet
@@ -129,7 +129,7 @@ none-at_counter M h b s at = by_cases (net_of h b.net) refl
         absurd (omega arith)
 
 -- so a bit with sinks isn't the new one
-pub new-other : (M : Plain) (m : ModId) (h : PModule) (b : BitOf) → IsSound M → module_of M m ≡ Some h → 0 < length (sinks M m b) → is_bit b (Bit (record { 0 = h.next_net }) 0) ≡ false
+new-other : (M : Plain) (m : ModId) (h : PModule) (b : BitOf) → IsSound M → module_of M m ≡ Some h → 0 < length (sinks M m b) → is_bit b (Bit (record { 0 = h.next_net }) 0) ≡ false
 new-other M m h b sound found some =
     by_test (h.next_net == b.net.0) refl
   where
@@ -212,13 +212,13 @@ module _ (S : State) (m : ModId) (cell : ModId) (b : BitOf) (name_n name_b : Lis
       ∙ map-append to_out (joins M m) (map to_in (open_joins u ports)) ∙ ap (λ (x : List Join). x ++ bits_to u ports b new) (stay _ _)
 
 -- what the connections of the module are after a split: settled, with the buffer's two at the end
-pub record Ends (S T : State) (m : ModId) (limit : Fanout) (b : BitOf) : Type 0 where
-  pub holder : PModule
-  pub found : module_of S.plain m ≡ Some holder
-  pub buffer : InstId
-  pub tail : List Join
-  pub two : (na : NetId) × (nb : NetId) × IsBuffer buffer na nb b (made_net S m) tail
-  pub joins : joins T.plain m ≡ settled b (made_net S m) (limit.max - 1) (joins S.plain m) ++ tail
+record Ends (S T : State) (m : ModId) (limit : Fanout) (b : BitOf) : Type 0 where
+  holder : PModule
+  found : module_of S.plain m ≡ Some holder
+  buffer : InstId
+  tail : List Join
+  two : (na : NetId) × (nb : NetId) × IsBuffer buffer na nb b (made_net S m) tail
+  joins : joins T.plain m ≡ settled b (made_net S m) (limit.max - 1) (joins S.plain m) ++ tail
 
 split-ends : (S : State) (m : ModId) (limit : Fanout) (b : BitOf) → IsGoodState S → S.settings.fanout ≡ Some limit → NoneRefused S (split S m limit b) → Ends S (all_passed S (split S m limit b)) m limit b
 split-ends S m limit b good set none =
