@@ -11,3 +11,4 @@ pub mod Once
 pub mod OncePlay
 pub mod Placing
 pub mod Observing
+pub mod Making
