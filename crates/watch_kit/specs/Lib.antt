@@ -7,3 +7,4 @@ pub mod FanoutLimit
 pub mod Snap
 pub mod Restless
 pub mod Examples
+pub mod inside
