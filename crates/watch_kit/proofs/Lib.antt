@@ -6,3 +6,6 @@ pub mod Keys
 pub mod Moves
 pub mod Names
 pub mod Noted
+pub mod Over
+pub mod Passing
+pub mod Splits

@@ -1,12 +1,10 @@
-ghost use Rattle.std.specs.Prelude.{◌≡◌, ◌∷◌, ◌++◌, [], IfOk, IsSome, map};
-ghost use Rattle.emh_base.specs.declared.plain.Dir.TheVariants.{Input, Output};
-ghost use Rattle.emh_base.specs.declared.plain.Src.TheVariants.{Bit};
-ghost use Rattle.flatten_rules.specs.Lookup.{module_of};
+ghost use Rattle.std.specs.Prelude.{◌≡◌, ◌∷◌, [], IfOk, IsSome, map};
 ghost use Rattle.edit_rules.specs.Good.{IsGoodState};
 ghost use Rattle.emh_session.specs.Observing.{AnswersChange};
 ghost use Rattle.watch_kit.specs.FanoutLimit.{splits};
-ghost use Rattle.watch_kit.specs.Split.{made_inst, made_net, new_buffer, new_net, port_to, split};
+ghost use Rattle.watch_kit.specs.Split.{new_net, split};
 ghost use Rattle.watch_kit.specs.inside.Keys.{bit_of};
+ghost use Rattle.watch_kit.specs.inside.Splitting.{buffer_edits, buffer_on};
 
 use crate::mover::moves;
 use crate::naming::free_name;
@@ -85,13 +83,7 @@ impl Buffer {
     /// A buffer of a cell that drives the next net that a module gets.
     fn on(state: &State, id: ModId, cell: ModId, bit: BitOf) -> Buffer
         requires { IsGoodState state.now }
-        ensures { result ≡ record {
-          cell = cell;
-          input = port_to Input (module_of state.now.plain cell);
-          output = port_to Output (module_of state.now.plain cell);
-          from = Bit bit.net bit.offset;
-          to = made_net state.now id;
-        } }
+        ensures { result ≡ buffer_on state.now id cell bit }
     {
         Buffer {
             cell,
@@ -105,9 +97,7 @@ impl Buffer {
     /// The edits that make it and connect it.
     fn edits(&self, alloc: Global, state: &State, id: ModId) -> Result<List<Edit>, NoMemory>
         requires { IsGoodState state.now }
-        ensures { IfOk result (λ edits. edits ≡ new_buffer state.now id self.now.cell
-            ∷ Edit.Connect id (made_inst state.now id) self.now.input (self.now.from ∷ [])
-            ∷ Edit.Connect id (made_inst state.now id) self.now.output (self.now.to ∷ []) ∷ []) }
+        ensures { IfOk result (λ edits. edits ≡ buffer_edits state.now id self.now) }
     {
         let counter = next_inst_of(module_of(&state.plain, id));
         let mut edits = List::new(alloc);
