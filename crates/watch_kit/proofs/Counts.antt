@@ -1,13 +1,10 @@
 -- Numbers that grow by the sinks that are counted.
-use Rattle.std.proofs.Common.{◌≡◌, ℕ, ◌+◌, ◌-◌, ◌<◌, ◌≤◌, min, nat_lt, Bool, true, false, cond, List, [], ◌∷◌, ◌++◌, length, Option, Some, None, option_map, refl, sym, ap, ap₂, ◌∙◌, subst, arith}
-use Rattle.std.proofs.lemmas.Bool.Decides.{nat_tests}
-use Rattle.std.specs.Map.{lookup}
-use Rattle.std.proofs.Common.{is_eq}
+use Rattle.std.proofs.Common.{◌≡◌, ℕ, ◌+◌, ◌≤◌, Bool, true, false, cond, List, ◌++◌, Option, Some, None, option_map, refl, sym, ap, ap₂, ◌∙◌, arith}
 use Rattle.watch_kit.specs.declared.net_bits.BitOf.{BitOf as Key}
 use Rattle.watch_kit.specs.declared.sink_counts.SinkCounts.{SinkCounts}
 use Rattle.watch_kit.specs.NetBits.{BitOf}
 use Rattle.watch_kit.specs.FanoutLimit.{same_bit}
-use Rattle.watch_kit.specs.inside.Keys.{bit_of, key_cmp, count_at}
+use Rattle.watch_kit.specs.inside.Keys.{bit_of, count_at}
 use Rattle.watch_kit.specs.inside.Counting.{up_to, CountsMore, sinks_among}
 use Rattle.watch_kit.specs.Sinks.{Join}
 use Rattle.watch_kit.proofs.Moves.{among-append}
@@ -16,7 +13,7 @@ use Rattle.watch_kit.proofs.Keys.{same-bit}
 none-more : (limit n more : ℕ) → more ≡ 0 → up_to limit n more ≡ n
 none-more limit n more none = omega (arith, none)
 
-pub all-as_before : (limit more : ℕ) → more ≡ 0 → (o : Option ℕ) → o ≡ option_map (λ n. up_to limit n more) o
+all-as_before : (limit more : ℕ) → more ≡ 0 → (o : Option ℕ) → o ≡ option_map (λ n. up_to limit n more) o
 all-as_before limit more none (Some n) = ap Some (sym (none-more limit n more none))
 all-as_before limit more none None = refl
 
@@ -53,19 +50,6 @@ counts-more old now new js ks all first then is =
 -- One sink more of a net bit.
 
 module _ (limit : ℕ) (old : List (Key × ℕ)) (bit : Key) where
-  pub one-absent : count_at old bit ≡ None → (at : Key) (b : Bool) → b ≡ same_bit (bit_of bit) (bit_of at) → count_at old at ≡ option_map (λ n. up_to limit n (cond b 1 0)) (count_at old at)
-  one-absent none at true same =
-      let here : count_at old at ≡ None = ap (count_at old) (sym (same-bit bit at (sym same))) ∙ none in
-      here ∙ ap (option_map (λ n. up_to limit n 1)) (sym here)
-  one-absent none at false same = all-as_before limit 0 refl (count_at old at)
-
-  pub one-full : (n : ℕ) → count_at old bit ≡ Some n → limit < n → (at : Key) (b : Bool) → b ≡ same_bit (bit_of bit) (bit_of at) → count_at old at ≡ option_map (λ k. up_to limit k (cond b 1 0)) (count_at old at)
-  one-full n some full at true same =
-      let here : count_at old at ≡ Some n = ap (count_at old) (sym (same-bit bit at (sym same))) ∙ some in
-      let stays : n ≡ up_to limit n 1 = omega (arith, full) in
-      here ∙ ap Some stays ∙ ap (option_map (λ k. up_to limit k 1)) (sym here)
-  one-full n some full at false same = all-as_before limit 0 refl (count_at old at)
-
   pub one-counted : (n : ℕ) → count_at old bit ≡ Some n → n ≤ limit → (at : Key) (b : Bool) → b ≡ same_bit (bit_of bit) (bit_of at)
       → cond b (Some (n + 1)) (count_at old at) ≡ option_map (λ k. up_to limit k (cond b 1 0)) (count_at old at)
   one-counted n some few at true same =

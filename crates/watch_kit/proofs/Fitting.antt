@@ -1,5 +1,5 @@
 -- Modules of sound tables.
-use Rattle.std.proofs.Common.{◌≡◌, ◌≤◌, ◌+◌, List, length, Option, Some, None, All, MatchOption, sym, arith}
+use Rattle.std.proofs.Common.{◌≡◌, ◌≤◌, ◌+◌, length, Option, Some, None, All, MatchOption, sym, arith}
 use Rattle.std.proofs.lemmas.List.Elements.{All-weaker}
 use Rattle.emh_base.specs.declared.plain.PInst.{PInst}
 use Rattle.emh_base.specs.declared.plain.PNet.{PNet}
@@ -23,6 +23,10 @@ all-fit M h sound =
 
 pub few-names : (M : Plain) (h : PModule) → IsSoundModule M h → length h.nets + length h.insts ≤ 8589934590
 few-names M h sound =
-    omega (arith, sound.net_counter, sound.inst_counter,
-    length-below (λ (net : PNet). net.id.0) h.nets h.next_net sound.nets_rise sound.nets_below,
-    length-below (λ (inst : PInst). inst.id.0) h.insts h.next_inst sound.insts_rise sound.insts_below)
+    omega (
+      arith,
+      sound.net_counter,
+      sound.inst_counter,
+      length-below (λ (net : PNet). net.id.0) h.nets h.next_net sound.nets_rise sound.nets_below,
+      length-below (λ (inst : PInst). inst.id.0) h.insts h.next_inst sound.insts_rise sound.insts_below,
+    )

@@ -1,5 +1,5 @@
 -- Sinks that move, connection by connection.
-use Rattle.std.proofs.Common.{◌≡◌, ℕ, zero, suc, ◌+◌, ◌-◌, ◌<◌, ◌≤◌, nat_le, Bool, true, false, cond, List, [], ◌∷◌, ◌++◌, map, length, refl, sym, ap, ap₂, ◌∙◌, arith, append_assoc, append-nil, length-append}
+use Rattle.std.proofs.Common.{◌≡◌, ℕ, ◌+◌, ◌-◌, ◌<◌, ◌≤◌, nat_le, Bool, true, false, cond, List, [], ◌∷◌, ◌++◌, map, length, refl, sym, ap, ap₂, ◌∙◌, arith, append_assoc, append-nil, length-append}
 use Rattle.std.specs.List.{flat_map, count_by}
 use Rattle.std.proofs.lemmas.Bool.Decides.{nat_tests}
 use Rattle.std.proofs.lemmas.List.{map-append}
@@ -10,7 +10,7 @@ use Rattle.emh_base.specs.declared.edit.Edit.{Edit}
 use Rattle.watch_kit.specs.declared.mover.Mover.{Mover}
 use Rattle.watch_kit.specs.NetBits.{BitOf, is_bit}
 use Rattle.watch_kit.specs.Sinks.{Join, Sink, taken, sinks_from, sinks_at}
-use Rattle.watch_kit.specs.Split.{Move, moved, move, moves, connect_to}
+use Rattle.watch_kit.specs.Split.{Move, move, moves, connect_to}
 use Rattle.watch_kit.specs.inside.Keys.{bit_of}
 use Rattle.watch_kit.specs.inside.Counting.{sinks_among}
 use Rattle.watch_kit.specs.inside.Moving.{moved_on}
@@ -34,7 +34,7 @@ sinks-from b j offset (src ∷ more) =
     ∙ ap (λ n. cond (is_bit b src) 1 0 + n) (sinks-from b j (offset + 1) more)
     ∙ sym (count-cons (is_bit b) src more)
 
-pub sinks-at : (b : BitOf) (j : Join) → length (sinks_at b j) ≡ count_by (is_bit b) (taken j.dir j.conn)
+sinks-at : (b : BitOf) (j : Join) → length (sinks_at b j) ≡ count_by (is_bit b) (taken j.dir j.conn)
 sinks-at b j = sinks-from b j 0 (taken j.dir j.conn)
 
 pub among-append : (b : BitOf) (js ks : List Join) → sinks_among (js ++ ks) b ≡ sinks_among js b + sinks_among ks b
@@ -74,7 +74,7 @@ module _ (s : Mover) (j : Join) (n : ℕ) (is : n ≡ count_by (is_bit (bit_of s
 
 -- Several.
 
-pub moves-append : (b : BitOf) (to : Src) (stay : ℕ) (js ks : List Join) → moves b to stay (js ++ ks) ≡ moves b to stay js ++ moves b to (stay - sinks_among js b) ks
+moves-append : (b : BitOf) (to : Src) (stay : ℕ) (js ks : List Join) → moves b to stay (js ++ ks) ≡ moves b to stay js ++ moves b to (stay - sinks_among js b) ks
 moves-append b to stay [] ks = ap (λ n. moves b to n ks) (omega arith)
 moves-append b to stay (j ∷ js) ks =
     let n = length (sinks_at b j) in
@@ -85,11 +85,7 @@ moves-append b to stay (j ∷ js) ks =
     ∙ sym (append_assoc here (moves b to (stay - n) js) (moves b to ((stay - n) - sinks_among js b) ks))
     ∙ ap (λ k. (here ++ moves b to (stay - n) js) ++ moves b to k ks) left
 
-pub moved-none : (s : Mover) → s ≡ moved_on s []
-moved-none s =
-    ap₂ (λ k (es : List Edit). record s { stay = k; edits = es }) (omega arith) (sym (append-nil s.edits))
-
-pub moved-append : (s : Mover) (js ks : List Join) → moved_on (moved_on s js) ks ≡ moved_on s (js ++ ks)
+moved-append : (s : Mover) (js ks : List Join) → moved_on (moved_on s js) ks ≡ moved_on s (js ++ ks)
 moved-append s js ks =
     let b = bit_of s.bit in
     let first = moves b s.to s.stay js in
@@ -102,9 +98,3 @@ moved-append s js ks =
 pub moved-more : (old now new : Mover) (js ks all : List Join) → now ≡ moved_on old js → new ≡ moved_on now ks → all ≡ js ++ ks → new ≡ moved_on old all
 moved-more old now new js ks all first then is =
     then ∙ ap (λ (s : Mover). moved_on s ks) first ∙ moved-append old js ks ∙ ap (moved_on old) (sym is)
-
--- The sources of one connection.
-
-pub stays-as_is : (b : BitOf) (to : Src) (src : Src) (more : List Src) → is_bit b src ≡ false → (stay : ℕ) → moved b to stay (src ∷ more) ≡ src ∷ moved b to stay more
-stays-as_is b to src more other zero = ap (λ (t : Bool). cond t to src ∷ moved b to zero more) other
-stays-as_is b to src more other (suc stay) = ap (λ (t : Bool). src ∷ moved b to (cond t stay (suc stay)) more) other

@@ -1,9 +1,8 @@
 -- Net bits that are noted, each once.
-use Rattle.std.proofs.Common.{◌≡◌, ℕ, ◌+◌, ◌<◌, ◌==◌, Bool, true, false, not, cond, ◌&&◌, ◌||◌, List, [], ◌∷◌, ◌++◌, map, take, get_or, length, Option, Some, None, is_some, refl, sym, ap, ◌∙◌, append_assoc, append-nil, arith, is_eq}
-use Rattle.std.specs.List.{list_any, fold, flat_map}
+use Rattle.std.proofs.Common.{◌≡◌, ℕ, Bool, true, false, not, cond, ◌||◌, List, [], ◌∷◌, ◌++◌, map, Option, Some, None, is_some, refl, sym, ap, ◌∙◌, append_assoc, append-nil, is_eq}
+use Rattle.std.specs.List.{list_any, fold}
 use Rattle.std.proofs.lemmas.List.{map-append}
 use Rattle.std.proofs.lemmas.List.Folds.{list_any-append}
-use Rattle.std.proofs.lemmas.List.Sums.{fold-append}
 use Rattle.watch_kit.specs.declared.net_bits.BitOf.{BitOf as Key}
 use Rattle.watch_kit.specs.declared.sink_counts.SinkCounts.{SinkCounts}
 use Rattle.watch_kit.specs.NetBits.{BitOf, once}
@@ -30,10 +29,6 @@ noted-on xs (y ∷ ys) =
 -- noted one after the other, each stands once
 pub noted-once : (xs : List BitOf) → fold noted [] xs ≡ once same_bit xs
 noted-once xs = noted-on [] xs
-
-pub noted-more : (now new xs ys all : List BitOf) → now ≡ fold noted [] xs → new ≡ fold noted now ys → all ≡ xs ++ ys → new ≡ fold noted [] all
-noted-more now new xs ys all first then is =
-    then ∙ ap (λ (l : List BitOf). fold noted l ys) first ∙ sym (ap (fold noted []) is ∙ fold-append noted [] xs ys)
 
 abbrev zero_if : Bool → Option ℕ → Option ℕ
 zero_if t o = cond t (Some 0) o

@@ -1,25 +1,19 @@
 -- The edits of splits, given part by part.
-use Rattle.std.proofs.Common.{◌≡◌, ℕ, ◌-◌, ◌<◌, List, [], ◌∷◌, ◌++◌, map, drop, get_or, length, Result, Ok, Err, refl, sym, ap, ap₂, ◌∙◌, subst, append_assoc, append-nil}
-use Rattle.std.proofs.lemmas.List.{drop_more, drop_all}
+use Rattle.std.proofs.Common.{◌≡◌, ◌-◌, List, [], ◌∷◌, ◌++◌, map, Result, Ok, Err, refl, sym, ap, ◌∙◌, subst, append_assoc, append-nil}
 use Rattle.emh_base.specs.declared.ids.ModId.{ModId}
-use Rattle.emh_base.specs.declared.plain.Dir.TheVariants.{Input, Output}
-use Rattle.emh_base.specs.declared.plain.Src.TheVariants.{Bit}
 use Rattle.emh_base.specs.declared.state.Fanout.{Fanout}
 use Rattle.emh_base.specs.declared.state.State.{State}
 use Rattle.emh_base.specs.declared.edit.Edit.{Edit}
-use Rattle.emh_base.specs.declared.edit.Edit.TheVariants.{Connect}
-use Rattle.flatten_rules.specs.Lookup.{module_of}
 use Rattle.desk.specs.Desk.{DeskView}
 use Rattle.emh_session.specs.declared.answers.Halt.{Halt}
 use Rattle.emh_session.specs.declared.answers.Halt.TheVariants.{NoMemory}
 use Rattle.emh_session.specs.Observing.{AnswersChange}
 use Rattle.emh_session.proofs.Giving.{gives-none, gives-then, gives-halt, gives-lack}
 use Rattle.watch_kit.specs.declared.net_bits.BitOf.{BitOf as Key}
-use Rattle.watch_kit.specs.declared.split.Buffer.{Buffer}
 use Rattle.watch_kit.specs.Passed.{passed, all_passed}
 use Rattle.watch_kit.specs.NetBits.{BitOf}
 use Rattle.watch_kit.specs.Sinks.{joins}
-use Rattle.watch_kit.specs.Split.{connect_to, joined_buffer, made_inst, made_net, moves, new_buffer, new_net, split}
+use Rattle.watch_kit.specs.Split.{connect_to, made_net, moves, new_net, split}
 use Rattle.watch_kit.specs.FanoutLimit.{splits}
 use Rattle.watch_kit.specs.inside.Keys.{bit_of}
 use Rattle.watch_kit.specs.inside.Splitting.{buffer_on, buffer_edits}

@@ -59,15 +59,23 @@ struct Overload {
 }
 
 /// What is to be split after a change.
-fn overload_after(alloc: Global, state: &State, change: &Change) -> Result<Option<Overload>, NoMemory>
+fn overload_after(
+    alloc: Global,
+    state: &State,
+    change: &Change,
+) -> Result<Option<Overload>, NoMemory>
     requires { IsGoodState state.now }
-    ensures { IfOk result (λ over. splits_of state.now over ≡ fanout_limit state.now change.now) }
+    ensures { IfOk result (λ over. splits_of state.now over
+        ≡ fanout_limit state.now change.now) }
 {
     let Some(limit) = state.settings.fanout else {
         return Ok(None);
     };
     let Edit::Connect {
-        module, inst, port, ..
+        module,
+        inst,
+        port,
+        ..
     } = &change.edit
     else {
         return Ok(None);

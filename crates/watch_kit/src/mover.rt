@@ -75,12 +75,7 @@ impl Mover {
         }
     }
 
-    fn move_ports(
-        &mut self,
-        inst: InstId,
-        ports: &[PPort],
-        conns: &[Conn],
-    ) -> Result<(), NoMemory>
+    fn move_ports(&mut self, inst: InstId, ports: &[PPort], conns: &[Conn]) -> Result<(), NoMemory>
         requires { length conns.now ≡ length ports.now }
         ensures { OnOk result (self.new
             ≡ moved_on self.old (map (join inst) (zip ports.now conns.now))) }

@@ -117,12 +117,7 @@ impl SinkCounts {
         }
     }
 
-    fn count_ports(
-        &mut self,
-        inst: InstId,
-        ports: &[PPort],
-        conns: &[Conn],
-    ) -> Result<(), NoMemory>
+    fn count_ports(&mut self, inst: InstId, ports: &[PPort], conns: &[Conn]) -> Result<(), NoMemory>
         requires { length conns.now ≡ length ports.now }
         ensures { OnOk result (CountsMore self.old
             (sinks_among (map (join inst) (zip ports.now conns.now))) self.new) }
@@ -179,7 +174,7 @@ impl SinkCounts {
     pub fn over(&self, alloc: Global, bits: &[BitOf]) -> Result<List<BitOf>, NoMemory>
         ensures { IfOk result (λ found. found
             ≡ filter (λ bit. nat_lt self.now.limit
-                (unwrap_or (count_at self.now.counts.entries bit) 0)) bits.now) }
+            (unwrap_or (count_at self.now.counts.entries bit) 0)) bits.now) }
     {
         let mut found = List::new(alloc);
         for bit in bits {

@@ -46,10 +46,11 @@ fn give_split(
     ensures { AnswersChange (split desk.old.state id limit (bit_of bit))
         desk.old result desk.new }
 {
-    let net = new_net(alloc, desk.state(), id)?;
-    let buffer = Buffer::on(desk.state(), id, limit.cell, bit);
+    let before = desk.state();
+    let net = new_net(alloc, before, id)?;
+    let buffer = Buffer::on(before, id, limit.cell, bit);
     let stay = limit.max.saturating_sub(1) as usize;
-    let moves = moves(alloc, desk.state(), id, bit, buffer.to, stay)?;
+    let moves = moves(alloc, before, id, bit, buffer.to, stay)?;
     give(desk, net)?;
     let made = buffer.edits(alloc, desk.state(), id)?;
     give_all(desk, made.as_slice())?;

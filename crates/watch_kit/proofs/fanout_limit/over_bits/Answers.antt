@@ -1,4 +1,4 @@
-use Rattle.std.proofs.Common.{List, map, filter, nat_lt, unwrap_or, subst, sym, ap, ◌∙◌, ℕ}
+use Rattle.std.proofs.Common.{List, map, filter, nat_lt, unwrap_or, subst, ap, ◌∙◌}
 use Rattle.std.specs.List.{flat_map}
 use Rattle.std.proofs.lemmas.Result.{IfOk-weaker}
 use Rattle.emh_base.specs.declared.plain.PInst.{PInst}

@@ -1,7 +1,7 @@
-use Rattle.std.proofs.Common.{◌≡◌, true, false, sym, ap, ◌∙◌, arith}
+use Rattle.std.proofs.Common.{sym, ap, ◌∙◌}
 use Rattle.flatten_rules.specs.Lookup.{module_of}
 use Rattle.edit_rules.specs.Readers.{is_name_in}
-use Rattle.watch_kit.specs.Split.{name_of, numbered}
+use Rattle.watch_kit.specs.Split.{name_of}
 use Rattle.watch_kit.proofs.Names.{taken-next, free-here}
 use Rattle.watch_kit.proofs.naming.free_name.Goals as goal
 

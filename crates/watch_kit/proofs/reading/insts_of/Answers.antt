@@ -1,7 +1,4 @@
-use Rattle.std.proofs.Common.{subst, sym, All, List}
-use Rattle.emh_base.specs.declared.plain.PInst.{PInst}
 use Rattle.edit_rules.proofs.TableLemmas.{sound-found}
-use Rattle.watch_kit.specs.inside.Counting.{FitsMaster}
 use Rattle.watch_kit.proofs.Fitting.{all-fit}
 use Rattle.watch_kit.proofs.reading.insts_of.Goals as goal
 

@@ -1,4 +1,4 @@
-use Rattle.std.proofs.Common.{◌+◌, map, drop, get_or, [], ap, subst, arith, List}
+use Rattle.std.proofs.Common.{◌+◌, map, drop, get_or, ap, subst, arith, List}
 use Rattle.std.proofs.lemmas.List.{drop_more, drop_all}
 use Rattle.std.proofs.lemmas.Result.{err_from_is_err_and}
 use Rattle.watch_kit.specs.declared.net_bits.BitOf.{BitOf as Key}

@@ -4,8 +4,7 @@ use Rattle.std.proofs.lemmas.List.{take_all}
 use Rattle.emh_base.specs.declared.plain.Src.{Src}
 use Rattle.watch_kit.specs.NetBits.{bits_in}
 use Rattle.watch_kit.specs.inside.Counting.{noted}
-use Rattle.watch_kit.proofs.Joins.{flat-more}
-use Rattle.watch_kit.proofs.Noted.{noted-once, noted-more}
+use Rattle.watch_kit.proofs.Noted.{noted-once}
 use Rattle.watch_kit.proofs.sink_counts.SinkCounts.begin_bits.Goals as goal
 
 pub returns-clause-bits : goal.returns-clause-bits

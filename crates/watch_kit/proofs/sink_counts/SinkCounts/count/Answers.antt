@@ -1,7 +1,7 @@
-use Rattle.std.proofs.Common.{◌≡◌, ◌≤◌, ◌+◌, cond, Some, refl, sym, ap, ◌∙◌, arith}
+use Rattle.std.proofs.Common.{◌+◌, cond, Some, refl, sym, ap, ◌∙◌, arith}
 use Rattle.watch_kit.specs.inside.Keys.{count_at}
 use Rattle.watch_kit.proofs.Keys.{same-key}
-use Rattle.watch_kit.proofs.Counts.{one-absent, one-full, one-counted}
+use Rattle.watch_kit.proofs.Counts.{one-counted}
 use Rattle.watch_kit.proofs.sink_counts.SinkCounts.count.Goals as goal
 
 pub returns-in_ok-insert : goal.returns-in_ok-insert

@@ -1,4 +1,4 @@
-use Rattle.std.proofs.Common.{List, [], cond, ap, sym, refl, ◌∙◌, take, arith}
+use Rattle.std.proofs.Common.{List, ap, refl, arith}
 use Rattle.std.specs.List.{count_by}
 use Rattle.std.proofs.lemmas.List.{take_all}
 use Rattle.emh_base.specs.declared.plain.Src.{Src}

@@ -1,4 +1,4 @@
-use Rattle.std.proofs.Common.{◌∷◌, [], ◌++◌, map, List, ap, subst, sym, ◌∙◌}
+use Rattle.std.proofs.Common.{map, List, ap, subst, sym, ◌∙◌}
 use Rattle.std.proofs.lemmas.Result.{on_ok_weaker}
 use Rattle.watch_kit.specs.declared.net_bits.BitOf.{BitOf as Key}
 use Rattle.watch_kit.specs.inside.Keys.{bit_of}
