@@ -15,7 +15,7 @@ use std::alloc::Global;
 use std::io;
 use std::io::ErrorKind;
 use std::rt::Runtime;
-use watch_kit::{Restless, Snap, Sweep};
+use watch_kit::{FanoutLimit, Restless, Snap, Sweep};
 
 /// Plays the cases of a text, prints a line for each that differs, and counts them.
 pub fn play_cases<R: Runtime + AllocGlobal>(
@@ -63,9 +63,10 @@ fn try_watched(
     requires most { 1 ≤ faults.most }
 {
     let sweep: Box<dyn Observer> = Box::new(alloc, Sweep::new(alloc))?;
+    let fanout: Box<dyn Observer> = Box::new(alloc, FanoutLimit::new(alloc))?;
     let snap: Box<dyn Observer> = Box::new(alloc, Snap::new(alloc))?;
     let restless: Box<dyn Observer> = Box::new(alloc, Restless::new(alloc))?;
-    let watch = [sweep, snap, restless];
+    let watch = [sweep, fanout, snap, restless];
     Ok(try_case(alloc, files, words, faults, wanted, &watch))
 }
 

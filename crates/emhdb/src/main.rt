@@ -12,7 +12,7 @@ use std::io::ErrorKind;
 use std::process::ExitCode;
 use std::rt::Runtime;
 use std::{env, io};
-use watch_kit::{Restless, Snap, Sweep};
+use watch_kit::{FanoutLimit, Restless, Snap, Sweep};
 
 /// The status where the words of the command line aren't text.
 const NO_WORDS: u8 = 2;
@@ -68,9 +68,10 @@ fn run_over_files<R: Runtime + AllocGlobal>(rt: &R, words: &[String]) -> Result<
     };
     let alloc = rt.alloc();
     let sweep: Box<dyn Observer> = Box::new(alloc, Sweep::new(alloc))?;
+    let fanout: Box<dyn Observer> = Box::new(alloc, FanoutLimit::new(alloc))?;
     let snap: Box<dyn Observer> = Box::new(alloc, Snap::new(alloc))?;
     let restless: Box<dyn Observer> = Box::new(alloc, Restless::new(alloc))?;
-    let watch = [sweep, snap, restless];
+    let watch = [sweep, fanout, snap, restless];
     let mut shelf = FileShelf::new(alloc, files);
     let mut out = OutSink::new(io::writer(rt));
     Ok(run(alloc, words, &mut shelf, &mut out, &watch))

@@ -30,33 +30,34 @@ kept-more {X} {Y} f p xs i d now new within at push =
 
 -- each once, item by item
 
-last-by : (p : NetId → Bool) (x : NetId) (s t u : Bool) → p x ≡ not s → u ≡ (not s && t) → filter p (cond t [] (x ∷ [])) ≡ cond (s || u) [] (x ∷ [])
-last-by p x true true u passes is = refl
-last-by p x true false u passes is = ap (λ (b : Bool). cond b (x ∷ []) []) passes
-last-by p x false true u passes is = sym (ap (λ (b : Bool). cond b [] (x ∷ [])) is)
-last-by p x false false u passes is = ap (λ (b : Bool). cond b (x ∷ []) []) passes ∙ sym (ap (λ (b : Bool). cond b [] (x ∷ [])) is)
+module _ {X : Type 0} (same : X → X → Bool) (alike : (y x k : X) → same k x ≡ true → not (same y k) ≡ not (same y x)) where
+  last-by : (p : X → Bool) (x : X) (s t u : Bool) → p x ≡ not s → u ≡ (not s && t) → filter p (cond t [] (x ∷ [])) ≡ cond (s || u) [] (x ∷ [])
+  last-by p x true true u passes is = refl
+  last-by p x true false u passes is = ap (λ (b : Bool). cond b (x ∷ []) []) passes
+  last-by p x false true u passes is = sym (ap (λ (b : Bool). cond b [] (x ∷ [])) is)
+  last-by p x false false u passes is = ap (λ (b : Bool). cond b (x ∷ []) []) passes ∙ sym (ap (λ (b : Bool). cond b [] (x ∷ [])) is)
 
-alike : (y x k : NetId) → same_net k x ≡ true → not (same_net y k) ≡ not (same_net y x)
-alike y x k same = by_numbers y.0 x.0 k.0 same
+  pub once-last : (xs : List X) (x : X)
+      → once same (xs ++ x ∷ []) ≡ once same xs ++ cond (list_any (λ y. same y x) (once same xs)) [] (x ∷ [])
+  once-last [] x = refl
+  once-last (y ∷ ys) x =
+      let zs : List X = once same ys in
+      let other : X → Bool = λ z. not (same y z) in
+      let test : X → Bool = λ z. same z x in
+      ap (λ (l : List X). y ∷ filter other l) (once-last ys x)
+      ∙ ap (λ (l : List X). y ∷ l) (filter-append other zs (cond (list_any test zs) [] (x ∷ [])))
+      ∙ ap (λ (l : List X). y ∷ (filter other zs ++ l))
+      (last-by other x (same y x) (list_any test zs) (list_any test (filter other zs)) refl (any-filter_same test other (not (same y x)) (alike y x) zs))
+
+alike_nets : (y x k : NetId) → same_net k x ≡ true → not (same_net y k) ≡ not (same_net y x)
+alike_nets y x k same = by_numbers y.0 x.0 k.0 same
   where
     by_numbers : (a b c : ℕ) → (c == b) ≡ true → not (a == c) ≡ not (a == b)
     by_numbers a b c e = let is : c ≡ b = grind (arith, nat_tests) in ap (λ n. not (a == n)) is
-
-once-last : (xs : List NetId) (x : NetId)
-    → once same_net (xs ++ x ∷ []) ≡ once same_net xs ++ cond (list_any (λ y. same_net y x) (once same_net xs)) [] (x ∷ [])
-once-last [] x = refl
-once-last (y ∷ ys) x =
-    let zs : List NetId = once same_net ys in
-    let other : NetId → Bool = λ z. not (same_net y z) in
-    let test : NetId → Bool = λ z. same_net z x in
-    ap (λ (l : List NetId). y ∷ filter other l) (once-last ys x)
-    ∙ ap (λ (l : List NetId). y ∷ l) (filter-append other zs (cond (list_any test zs) [] (x ∷ [])))
-    ∙ ap (λ (l : List NetId). y ∷ (filter other zs ++ l))
-    (last-by other x (same_net y x) (list_any test zs) (list_any test (filter other zs)) refl (any-filter_same test other (not (same_net y x)) (alike y x) zs))
 
 pub once-more : (xs : List NetId) (i : ℕ) (d : NetId) (now new : List NetId) → i < length xs → now ≡ once same_net (take i xs)
     → new ≡ now ++ cond (list_any (λ y. same_net y (get_or xs i d)) now) [] (get_or xs i d ∷ []) → new ≡ once same_net (take (i + 1) xs)
 once-more xs i d now new within at push =
     let x : NetId = get_or xs i d in
     push ∙ ap (λ (l : List NetId). l ++ cond (list_any (λ y. same_net y x) l) [] (x ∷ [])) at
-    ∙ sym (ap (once same_net) (take_more xs i d within) ∙ once-last (take i xs) x)
+    ∙ sym (ap (once same_net) (take_more xs i d within) ∙ once-last same_net alike_nets (take i xs) x)

@@ -1,4 +1,14 @@
+pub mod Counts
+pub mod Fitting
 pub mod Gathered
+pub mod Joins
+pub mod Keys
+pub mod Moves
+pub mod Names
+pub mod Noted
+pub mod Over
+pub mod Passing
+pub mod Splits
 pub mod SplitCounts
 pub mod SplitConnects
 pub mod SplitJoins

@@ -8,3 +8,4 @@ pub mod Snap
 pub mod Restless
 pub mod Examples
 pub mod Law
+pub mod inside

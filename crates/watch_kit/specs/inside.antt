@@ -1,0 +1,4 @@
+pub mod Keys
+pub mod Counting
+pub mod Moving
+pub mod Splitting
