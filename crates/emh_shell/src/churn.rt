@@ -52,12 +52,7 @@ pub fn churn(
 }
 
 /// Puts `turns C accepted A refused R` last.
-fn push_churn(
-    turns: u32,
-    accepted: u32,
-    refused: u32,
-    out: &mut List<u8>,
-) -> Result<(), NoMemory>
+fn push_churn(turns: u32, accepted: u32, refused: u32, out: &mut List<u8>) -> Result<(), NoMemory>
     ensures { OnOk result (out.new ≡ out.old ++ churn_line turns accepted refused) }
 {
     out.extend(b"turns ")?;
