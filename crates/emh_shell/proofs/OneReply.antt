@@ -63,7 +63,7 @@ module _ (files : Files) (library : Plain) (file top : List ℕ) where
   one_opened reply other p q has has_too a b =
       one_opening q top reply other (subst (λ z. Opens z top reply) (one_table p q has has_too) a) b
 
-  opened : Result State OpenFault → Result State DesignFault
+  abbrev opened : Result State OpenFault → Result State DesignFault
   opened (Ok design) = Ok design
   opened (Err fault) = Err (Opening fault)
 

@@ -11,7 +11,7 @@ returns-in-Ok g c = λ words ask asks under gives.
       bytes = c.args.bytes.now;
       asks = asks;
       gives = gives;
-      read = rw c.as_slice.ensures c.in-Ok.ensures;
+      read = rw c.as_slice.ensures c.in-Ok.ensures.answer;
     }) under
 
 pub returns-in-Err-NoMemory : goal.returns-in-Err-NoMemory
@@ -31,6 +31,6 @@ returns-in_ok-text-in-Err-BadLine g c = λ words ask asks under gives.
       bytes = c.args.bytes.now;
       gives = gives;
       fault = BadLine c.in-Err-BadLine.line;
-      read = rw c.in-Err-BadLine.field-0-is at c.in-Err-BadLine.ensures;
+      read = rw c.in-Err-BadLine.field-0-is at c.in-Err-BadLine.ensures.answer;
       told = c.as_slice-in-Err-BadLine.ensures ∙ c.in_ok-text-in-Err-BadLine.ensures;
     }))) refl (refl, refl) c.print_fault-in-Err-BadLine.ensures
