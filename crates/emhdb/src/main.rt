@@ -1,7 +1,7 @@
 //! The program `emhdb`: runs a script of commands over the files of the current folder.
 #![tactic(auto)]
 
-ghost use Rattle.std.specs.Prelude.{◌≡◌, ◌≤◌};
+ghost use Rattle.std.specs.Prelude.{◌≡◌, ◌≤◌, IfOk};
 ghost use Rattle.std.specs.IoError.{error_kind};
 
 use emh_base::NoMemory;
