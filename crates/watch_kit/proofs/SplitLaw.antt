@@ -181,7 +181,7 @@ there-other M h c s there = by_test (h.next_net == c.net.0) refl
         absurd (false≢true (sym (ap (λ (o : Option PNet). is_some o) gone) ∙ there))
 
 -- The connections after the four edits before the moves.
-module _ (S : State) (m : ModId) (cell : ModId) (b : BitOf) (name_n name_b : List ℕ) (u : InstId) (new : Src) (T1 T2 T3 T4 : State) (h : PModule) where
+module _ (S : State) (m : ModId) (cell : ModId) (b : BitOf) (name_n name_b : List ℕ) (u : InstId) (new : Src) (S1 S2 S3 S4 : State) (h : PModule) where
   abbrev M : Plain
   M = S.plain
 
@@ -194,17 +194,17 @@ module _ (S : State) (m : ModId) (cell : ModId) (b : BitOf) (name_n name_b : Lis
   abbrev to_out : Join → Join
   to_out = rejoined u (port_to Output (module_of M cell)) (Bits (new ∷ []))
 
-  buffer-joined : IsSound M → module_of M m ≡ Some h → next_inst_of (module_of T1.plain m) ≡ u.0 → T1 ≡ after S (CreateNet m name_n None) → T2 ≡ after T1 (CreateInst m name_b cell)
-      → joins T3.plain m ≡ map to_in (joins T2.plain m) → joins T4.plain m ≡ map to_out (joins T3.plain m) → joins T4.plain m ≡ joins M m ++ bits_to u ports b new
+  buffer-joined : IsSound M → module_of M m ≡ Some h → next_inst_of (module_of S1.plain m) ≡ u.0 → S1 ≡ after S (CreateNet m name_n None) → S2 ≡ after S1 (CreateInst m name_b cell)
+      → joins S3.plain m ≡ map to_in (joins S2.plain m) → joins S4.plain m ≡ map to_out (joins S3.plain m) → joins S4.plain m ≡ joins M m ++ bits_to u ports b new
   buffer-joined sound found is_u d1 d2 j3 j4 =
       let f : PModule → PModule = with_net name_n None in
-      let found1 : module_of T1.plain m ≡ Some (f h) = ap (λ (T : State). module_of T.plain m) d1 ∙ changed-here M m f (λ y. refl) h found in
-      let j1 : joins T1.plain m ≡ joins M m = ap (λ (T : State). joins T.plain m) d1 ∙ joins-net M m name_n h found in
-      let cell1 : ports_of (module_of T1.plain cell) ≡ ports = ap (λ (T : State). ports_of (module_of T.plain cell)) d1 ∙ ports-stay M m f (λ y. refl) (λ y. refl) cell in
+      let found1 : module_of S1.plain m ≡ Some (f h) = ap (λ (T : State). module_of T.plain m) d1 ∙ changed-here M m f (λ y. refl) h found in
+      let j1 : joins S1.plain m ≡ joins M m = ap (λ (T : State). joins T.plain m) d1 ∙ joins-net M m name_n h found in
+      let cell1 : ports_of (module_of S1.plain cell) ≡ ports = ap (λ (T : State). ports_of (module_of T.plain cell)) d1 ∙ ports-stay M m f (λ y. refl) (λ y. refl) cell in
       let make : ℕ → InstId = λ n. record { 0 = n } in
       let is : u ≡ make h.next_inst = sym (ap make (sym (ap next_inst_of found1) ∙ is_u)) in
-      let j2 : joins T2.plain m ≡ joins M m ++ open_joins u ports =
-      ap (λ (T : State). joins T.plain m) d2 ∙ joins-inst T1.plain m cell name_b (f h) ports found1 cell1 ∙ ap₂ (λ (x y : List Join). x ++ y) j1 (ap (λ (i : InstId). open_joins i ports) (sym is)) in
+      let j2 : joins S2.plain m ≡ joins M m ++ open_joins u ports =
+      ap (λ (T : State). joins T.plain m) d2 ∙ joins-inst S1.plain m cell name_b (f h) ports found1 cell1 ∙ ap₂ (λ (x y : List Join). x ++ y) j1 (ap (λ (i : InstId). open_joins i ports) (sym is)) in
       let stay : (p : NetId) (conn : Conn) → map (rejoined u p conn) (joins M m) ≡ joins M m = λ p conn.
       subst (λ (i : InstId). map (rejoined i p conn) (joins M m) ≡ joins M m) (sym is) (untouched M m h p conn sound found) in
       j4
@@ -223,42 +223,42 @@ record Ends (S T : State) (m : ModId) (limit : Fanout) (b : BitOf) : Type 0 wher
 split-ends : (S : State) (m : ModId) (limit : Fanout) (b : BitOf) → IsGoodState S → S.settings.fanout ≡ Some limit → NoneRefused S (split S m limit b) → Ends S (all_passed S (split S m limit b)) m limit b
 split-ends S m limit b good set none =
     let e1 : Edit = new_net S m in
-    let T1 : State = passed S e1 in
-    let e2 : Edit = new_buffer T1 m limit.cell in
-    let T2 : State = passed T1 e2 in
-    let u : InstId = made_inst T1 m in
+    let S1 : State = passed S e1 in
+    let e2 : Edit = new_buffer S1 m limit.cell in
+    let S2 : State = passed S1 e2 in
+    let u : InstId = made_inst S1 m in
     let new : Src = made_net S m in
     let pin : NetId = port_to Input (module_of S.plain limit.cell) in
     let pout : NetId = port_to Output (module_of S.plain limit.cell) in
     let e3 : Edit = Connect m u pin (Bit b.net b.offset ∷ []) in
-    let T3 : State = passed T2 e3 in
+    let S3 : State = passed S2 e3 in
     let e4 : Edit = Connect m u pout (new ∷ []) in
-    let T4 : State = passed T3 e4 in
+    let S4 : State = passed S3 e4 in
     let js : List Join = joins S.plain m in
     let stay : ℕ = limit.max - 1 in
     let mvs : List Move = moves b new stay js in
     let n1 : first_broken (checks S e1) ≡ None = none.0 in
-    let n2 : first_broken (checks T1 e2) ≡ None = none.1.0 in
-    let n3 : first_broken (checks T2 e3) ≡ None = none.1.1.0 in
-    let n4 : first_broken (checks T3 e4) ≡ None = none.1.1.1.0 in
-    let n5 : NoneRefused T4 (map (connect_to m) mvs) = none.1.1.1.1 in
-    let good1 : IsGoodState T1 = passed-good S e1 good n1 in
-    let good2 : IsGoodState T2 = passed-good T1 e2 good1 n2 in
-    let good3 : IsGoodState T3 = passed-good T2 e3 good2 n3 in
-    let good4 : IsGoodState T4 = passed-good T3 e4 good3 n4 in
+    let n2 : first_broken (checks S1 e2) ≡ None = none.1.0 in
+    let n3 : first_broken (checks S2 e3) ≡ None = none.1.1.0 in
+    let n4 : first_broken (checks S3 e4) ≡ None = none.1.1.1.0 in
+    let n5 : NoneRefused S4 (map (connect_to m) mvs) = none.1.1.1.1 in
+    let good1 : IsGoodState S1 = passed-good S e1 good n1 in
+    let good2 : IsGoodState S2 = passed-good S1 e2 good1 n2 in
+    let good3 : IsGoodState S3 = passed-good S2 e3 good2 n3 in
+    let good4 : IsGoodState S4 = passed-good S3 e4 good3 n4 in
     let p1 : Passes (checks S e1) = record { none = n1 } in
     let o : Opened S m = (common-passes S m p1).0 in
-    let j3 : joins T3.plain m ≡ map (rejoined u pin (Bits (Bit b.net b.offset ∷ []))) (joins T2.plain m) = joins-passed m (record { inst = u; port = pin; bits = Bit b.net b.offset ∷ [] }) T2 good2 n3 in
-    let j4 : joins T4.plain m ≡ map (rejoined u pout (Bits (new ∷ []))) (joins T3.plain m) = joins-passed m (record { inst = u; port = pout; bits = new ∷ [] }) T3 good3 n4 in
+    let j3 : joins S3.plain m ≡ map (rejoined u pin (Bits (Bit b.net b.offset ∷ []))) (joins S2.plain m) = joins-passed m (record { inst = u; port = pin; bits = Bit b.net b.offset ∷ [] }) S2 good2 n3 in
+    let j4 : joins S4.plain m ≡ map (rejoined u pout (Bits (new ∷ []))) (joins S3.plain m) = joins-passed m (record { inst = u; port = pout; bits = new ∷ [] }) S3 good3 n4 in
     let tail : List Join = bits_to u (ports_of (module_of S.plain limit.cell)) b new in
-    let all4 : joins T4.plain m ≡ js ++ tail = buffer-joined S m limit.cell b _ _ u new T1 T2 T3 T4 o.holder good.table.sound o.found refl (done S e1 n1) (done T1 e2 n2) j3 j4 in
+    let all4 : joins S4.plain m ≡ js ++ tail = buffer-joined S m limit.cell b _ _ u new S1 S2 S3 S4 o.holder good.table.sound o.found refl (done S e1 n1) (done S1 e2 n2) j3 j4 in
     record {
       holder = o.holder;
       found = o.found;
       buffer = u;
       tail = tail;
       two = buffered u b new S.plain limit.cell good.table.sound (good.fanout limit set).buffer;
-      joins = run-moves m mvs T4 good4 n5 ∙ ap (all_rejoined mvs) all4 ∙ moves-settle b new js tail stay (subst Apart all4 (apart-joins T4.plain m good4.table.sound));
+      joins = run-moves m mvs S4 good4 n5 ∙ ap (all_rejoined mvs) all4 ∙ moves-settle b new js tail stay (subst Apart all4 (apart-joins S4.plain m good4.table.sound));
     }
 
 module _ (S : State) (m : ModId) (limit : Fanout) (b : BitOf) (good : IsGoodState S) (set : S.settings.fanout ≡ Some limit) (none : NoneRefused S (split S m limit b)) where
