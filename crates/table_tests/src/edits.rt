@@ -1,24 +1,20 @@
-mod done;
-mod limits;
-mod opening;
-mod order;
-mod refused;
-mod rows;
+mod counters;
+mod told;
+mod unnamed;
 mod yard;
 
 use crate::modules::{Conns, conns_of};
 use asks::{Ask, edit_of};
 use designs::{Design, state_of};
 use edit_rules::{Judged, apply_plain, is_good_state, judge};
-use emh_base::{By, Change, NoMemory, Object, Refusal, Rule, State, TryCopy};
+use emh_base::{By, Change, Object, Refusal, Rule, State, TryCopy};
 use same::{same_conns, same_state};
 use samples::{asks, designs, same};
 use std::alloc::Global;
 use std::process::Abort;
 
-/// Edits of a design, of which the last is done: the id that it gives, the connections that stood before, and the
-/// design after it.
-type Done = (&'static [Ask], Ask, Option<u32>, Conns, Design);
+/// Edits of a design, of which the last is done: the id that it gives, and the connections that stood before.
+type Done = (&'static [Ask], Ask, Option<u32>, Conns);
 
 /// Edits of a design, of which the last is refused.
 type Refused = (&'static [Ask], Ask, Told);
@@ -53,23 +49,6 @@ fn begun(rt: &impl Abort, alloc: Global, design: &Design, asks: &[Ask]) -> Resul
     Ok(state)
 }
 
-/// An edit is done, and this is told of it.
-fn does(
-    rt: &impl Abort,
-    alloc: Global,
-    state: &mut State,
-    ask: Ask,
-    made: Option<u32>,
-    was: Conns,
-) -> Result<(), Judged> {
-    let wanted = conns_of(alloc, was)?;
-    let change = carried(rt, alloc, state, ask)?;
-    assert_eq!(rt; change.by, By::User);
-    assert_eq!(rt; change.made, made);
-    assert!(rt; same_conns(&change.was, &wanted));
-    Ok(())
-}
-
 /// An edit is refused, and the state is as before.
 fn refuses(
     rt: &impl Abort,
@@ -88,32 +67,26 @@ fn refuses(
     Ok(())
 }
 
-/// The whole state is this design.
-fn is_now(rt: &impl Abort, alloc: Global, state: &State, design: &Design) -> Result<(), NoMemory> {
-    let wanted = state_of(alloc, design)?;
-    let same = same_state(state, &wanted)?;
-    assert!(rt; same);
-    Ok(())
-}
-
-/// The last of some edits of a design is done, with what is told of it and the design after it.
+/// The last of some edits of a design is done, and this is told of it.
 fn is_done(rt: &impl Abort, alloc: Global, design: &Design, case: &Done) -> Result<(), Judged> {
-    let (first, last, made, was, after) = case;
+    let (first, last, made, was) = case;
+    let wanted = conns_of(alloc, was)?;
     let mut state = begun(rt, alloc, design, first)?;
-    does(rt, alloc, &mut state, *last, *made, was)?;
-    is_now(rt, alloc, &state, after)?;
+    let change = carried(rt, alloc, &mut state, *last)?;
+    assert_eq!(rt; change.by, By::User);
+    assert_eq!(rt; change.made, *made);
+    assert!(rt; same_conns(&change.was, &wanted));
     Ok(())
 }
 
-/// The last of some edits of a design is refused. The state, which is as before it, is handed on.
+/// The last of some edits of a design is refused.
 fn is_refused(
     rt: &impl Abort,
     alloc: Global,
     design: &Design,
     case: &Refused,
-) -> Result<State, Judged> {
+) -> Result<(), Judged> {
     let (first, last, told) = case;
     let mut state = begun(rt, alloc, design, first)?;
-    refuses(rt, alloc, &mut state, *last, *told)?;
-    Ok(state)
+    refuses(rt, alloc, &mut state, *last, *told)
 }

@@ -1,13 +1,13 @@
 //! The worked example, with more cells and a module that the top doesn't reach.
 use super::designs::{BARE, Design};
-use super::rows::{BUF, IN_AND_OUT, INV, PAIR, TOP};
 use crate::modules::{Conns, EMPTY, Module, Port};
 use emh_base::Src::{Bit, Tie1};
 use emh_base::{Dir, NetId, Orient, Placement, Status};
+use samples::two_level::{BUF, IN_AND_OUT, INV, PAIR, TOP};
 
-pub const INPUT: Port = (0, Dir::Input);
+const INPUT: Port = (0, Dir::Input);
 
-pub const GATE: Module = Module {
+const GATE: Module = Module {
     id: 4,
     name: "GATE",
     leaf: true,
@@ -17,7 +17,7 @@ pub const GATE: Module = Module {
     ..EMPTY
 };
 
-pub const WIDE: Module = Module {
+const WIDE: Module = Module {
     id: 5,
     name: "WIDE",
     leaf: true,
@@ -28,13 +28,13 @@ pub const WIDE: Module = Module {
 };
 
 /// The connections of a wide cell to the two leftmost bits of net 1.
-pub const LEFT: Conns = &[&[Bit(NetId(1), 0), Bit(NetId(1), 1)], &[]];
+const LEFT: Conns = &[&[Bit(NetId(1), 0), Bit(NetId(1), 1)], &[]];
 
 /// The connections of a gate to a constant and to net 3.
 pub const TIED: Conns = &[&[], &[Tie1], &[Bit(NetId(3), 0)]];
 
 /// A module that the top doesn't reach.
-pub const SPARE: Module = Module {
+const SPARE: Module = Module {
     id: 6,
     name: "spare",
     nets: &[

@@ -10,6 +10,7 @@ use emh_base::{
     Dir, InstId, List, ModId, NetId, NoMemory, Orient, Path, Placement, Places, Plain, Src, Status,
 };
 use flatten_rules::{flat_lines, fresh, is_sound, is_within, module_of};
+use samples::two_level::{BUF, INV, PAIR, TOP};
 use std::alloc::Global;
 use std::str::from_utf8;
 use std::test::Fail;
@@ -23,7 +24,7 @@ struct Design {
     unfolded: &'static str,
 }
 
-/// Net 0 and its further bits, net 1 and net 2.
+/// Net 0 and its further bits, and net 1.
 const NET_0: Src = Src::Bit(NetId(0), 0);
 
 const NET_0_1: Src = Src::Bit(NetId(0), 1);
@@ -32,51 +33,10 @@ const NET_0_2: Src = Src::Bit(NetId(0), 2);
 
 const NET_1: Src = Src::Bit(NetId(1), 0);
 
-const NET_2: Src = Src::Bit(NetId(2), 0);
-
 const IN_0_OUT_1: &[Port] = &[(0, Dir::Input), (1, Dir::Output)];
 
-/// The worked example: a top of two pairs, each of two inverters in a row, and a cell that isn't used.
-const TWO_LEVEL: &[Module] = &[
-    Module {
-        id: 0,
-        name: "INV",
-        leaf: true,
-        nets: &[(0, "A", None), (1, "Y", None)],
-        ports: IN_0_OUT_1,
-        ..EMPTY
-    },
-    Module {
-        id: 1,
-        name: "BUF",
-        leaf: true,
-        nets: &[(0, "A", None), (1, "Y", None)],
-        ports: IN_0_OUT_1,
-        ..EMPTY
-    },
-    Module {
-        id: 2,
-        name: "pair",
-        nets: &[(0, "a", None), (1, "y", None), (2, "m", None)],
-        ports: IN_0_OUT_1,
-        insts: &[
-            (0, "u1", 0, &[&[NET_0], &[NET_2]]),
-            (1, "u2", 0, &[&[NET_2], &[NET_1]]),
-        ],
-        ..EMPTY
-    },
-    Module {
-        id: 3,
-        name: "top",
-        nets: &[(0, "i", None), (1, "o", None), (2, "w", None)],
-        ports: IN_0_OUT_1,
-        insts: &[
-            (0, "p", 2, &[&[NET_0], &[NET_2]]),
-            (1, "q", 2, &[&[NET_2], &[NET_1]]),
-        ],
-        ..EMPTY
-    },
-];
+/// The worked example, with a cell that isn't used.
+const TWO_LEVEL: &[Module] = &[INV, BUF, PAIR, TOP];
 
 /// Ties, open ports and pins, a bus without ports on it, and a cell whose ports stand in another order than its nets.
 /// The top comes first.
