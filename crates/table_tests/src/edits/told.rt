@@ -114,6 +114,20 @@ const COUNTED: &[Done] = &[
         &[],
     ),
     (&[CreateNet(6, "z", None)], CreateModule("m"), Some(7), &[]),
+    (&[CreateModule("m")], CreateNet(7, "z", None), Some(0), &[]),
+    (&[CreateModule("m")], CreateInst(7, "z", 0), Some(0), &[]),
+    (
+        &[CreatePort(2, "z", Dir::Inout, None)],
+        CreateNet(2, "x", None),
+        Some(4),
+        &[],
+    ),
+    (
+        &[CreatePort(2, "z", Dir::Inout, None)],
+        CreateInst(2, "x", 0),
+        Some(2),
+        &[],
+    ),
     (&[Uniquify(3, 0, "own")], CreateModule("m"), Some(8), &[]),
     (
         &[Uniquify(3, 0, "own")],
