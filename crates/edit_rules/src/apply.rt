@@ -17,13 +17,13 @@ use crate::insts::{
 use crate::judged::{Judged, judge};
 use crate::modules::{create_module, delete_module, rename_module, with_lock};
 use crate::nets::{create_net, create_port, delete_net, delete_port, rename_net};
-use crate::reading::{conn_of, inst_in};
+use crate::reading::conn_of;
 use crate::spots::kept;
 use emh_base::{
     By, Change, Conn, Edit, Fanout, InstId, List, ModId, NetId, NoMemory, Places, Plain, Settings,
     State, TryCopy,
 };
-use flatten_rules::module_of;
+use flatten_rules::{inst_in, module_of};
 use std::alloc::Global;
 
 /// Does an edit of a good state, asked for by the user, or tells the first rule that it breaks. After an error the

@@ -19,7 +19,7 @@ use emh_base::{
     Plain, Range, Src, State,
 };
 use flatten_rules::{
-    Numbered, find, module_of, net_bit_count, net_of, occurrence_count, port_of, times_below,
+    Numbered, inst_in, module_of, net_bit_count, net_in, occurrence_count, port_of, times_below,
 };
 
 /// A module that is there.
@@ -32,17 +32,6 @@ fn holder_of(plain: &Plain, id: ModId) -> &PModule
     module_of(plain, id).unwrap()
 }
 
-/// A net of a module.
-fn net_in(plain: &Plain, id: ModId, net: NetId) -> Option<&PNet>
-    requires { IsSound plain.now }
-    ensures { option_copied result ≡ net_in plain.now id net }
-{
-    match module_of(plain, id) {
-        None => None,
-        Some(holder) => net_of(holder, net),
-    }
-}
-
 /// A port of a module.
 fn port_in(plain: &Plain, id: ModId, port: NetId) -> Option<&PPort>
     requires { IsSound plain.now }
@@ -51,17 +40,6 @@ fn port_in(plain: &Plain, id: ModId, port: NetId) -> Option<&PPort>
     match module_of(plain, id) {
         None => None,
         Some(holder) => port_of(holder, port),
-    }
-}
-
-/// An instance in a module.
-pub fn inst_in(plain: &Plain, id: ModId, inst: InstId) -> Option<&PInst>
-    requires { IsSound plain.now }
-    ensures { option_copied result ≡ inst_in plain.now id inst }
-{
-    match module_of(plain, id) {
-        None => None,
-        Some(holder) => find(holder.insts.as_slice(), inst.0),
     }
 }
 

@@ -8,10 +8,9 @@ ghost use Rattle.emh_shell.specs.Objects.{name_or_number, module_word, net_word,
 
 use crate::printing::{number_object, refused_line, word_object};
 use emh_base::{
-    InstId, List, ModId, Name, NetId, NoMemory, Object, PInst, PNet, Plain, Refusal, push_number,
-    push_spelled,
+    InstId, List, ModId, Name, NetId, NoMemory, Object, Plain, Refusal, push_number, push_spelled,
 };
-use flatten_rules::{find, module_of, net_of};
+use flatten_rules::{inst_in, module_of, net_in};
 use script_read::{Command, Line, put_path};
 use std::alloc::Global;
 
@@ -177,30 +176,6 @@ fn push_module(plain: &Plain, module: ModId, text: &mut List<u8>) -> Result<(), 
     match module_of(plain, module) {
         None => push_id(module.0, text),
         Some(holder) => push_spelled(text, &holder.name),
-    }
-}
-
-/// The net of a module, if there is one.
-fn net_in(plain: &Plain, module: ModId, net: NetId) -> Option<&PNet>
-    requires { IsSound plain.now }
-    ensures { option_copied result ≡ option_and_then (λ m. net_of m net)
-        (module_of plain.now «module») }
-{
-    match module_of(plain, module) {
-        None => None,
-        Some(holder) => net_of(holder, net),
-    }
-}
-
-/// The instance in a module, if there is one.
-fn inst_in(plain: &Plain, module: ModId, inst: InstId) -> Option<&PInst>
-    requires { IsSound plain.now }
-    ensures { option_copied result ≡ option_and_then (λ m. inst_of m inst)
-        (module_of plain.now «module») }
-{
-    match module_of(plain, module) {
-        None => None,
-        Some(holder) => find(holder.insts.as_slice(), inst.0),
     }
 }
 

@@ -25,3 +25,4 @@ pub mod Comes
 pub mod Left
 pub mod Told
 pub mod OwnRoots
+pub mod Keys

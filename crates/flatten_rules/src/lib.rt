@@ -35,7 +35,9 @@ pub use limits::{
     is_within, leads_to, net_bit_count, occurrence_count, times_below,
 };
 pub use lines::flat_lines;
-pub use lookup::{find, module_of, net_of, place_of_module, port_of, width};
+pub use lookup::{
+    find, inst_in, module_of, net_in, net_of, place_of_module, port_of, width, width_of,
+};
 pub use numbered::{Numbered, place_of, rises};
 pub use port::port_places;
 pub use soundness::is_sound;

@@ -2,11 +2,13 @@ ghost use Rattle.std.specs.Prelude.{◌≡◌, ◌==◌, ◌<◌, ◌≤◌, Non
 ghost use Rattle.std.specs.Option.{option_copied};
 ghost use Rattle.emh_base.specs.declared.plain.PNet.{PNet};
 ghost use Rattle.emh_base.specs.declared.plain.PModule.{PModule};
-ghost use Rattle.flatten_rules.specs.Lookup.{module_of, place_of, net_of, port_of, width};
-ghost use Rattle.flatten_rules.specs.Sound.{IsAllowed};
+ghost use Rattle.flatten_rules.specs.Lookup.{module_of, place_of, net_of, port_of, width, width_of};
+ghost use Rattle.flatten_rules.specs.Changes.{net_in, inst_in};
+ghost use Rattle.flatten_rules.specs.Checks.{HasNets};
+ghost use Rattle.flatten_rules.specs.Sound.{IsAllowed, IsSound};
 
 use crate::numbered::{Numbered, place_of};
-use emh_base::{ModId, NetId, PModule, PNet, PPort, Plain, Range};
+use emh_base::{InstId, ModId, NetId, PInst, PModule, PNet, PPort, Plain, Range};
 
 /// The item with a number, in a list in rising order of numbers.
 pub fn find<T: Numbered>(items: &[T], number: u32) -> Option<&T>
@@ -33,6 +35,28 @@ pub fn net_of(holder: &PModule, id: NetId) -> Option<&PNet>
     ensures { option_copied result ≡ net_of holder.now id }
 {
     find(holder.nets.as_slice(), id.0)
+}
+
+/// The net of that id in the module of that id.
+pub fn net_in(plain: &Plain, id: ModId, net: NetId) -> Option<&PNet>
+    requires { IsSound plain.now }
+    ensures { option_copied result ≡ net_in plain.now id net }
+{
+    match module_of(plain, id) {
+        None => None,
+        Some(holder) => net_of(holder, net),
+    }
+}
+
+/// The instance of that id in the module of that id.
+pub fn inst_in(plain: &Plain, id: ModId, inst: InstId) -> Option<&PInst>
+    requires { IsSound plain.now }
+    ensures { option_copied result ≡ inst_in plain.now id inst }
+{
+    match module_of(plain, id) {
+        None => None,
+        Some(holder) => find(holder.insts.as_slice(), inst.0),
+    }
 }
 
 /// The port of a module whose inner net has that id. The ports are looked through in order.
@@ -66,5 +90,16 @@ pub fn width(range: Option<Range>) -> u16
     match range {
         None => 1,
         Some(range) => (range.left.abs_diff(range.right) + 1) as u16,
+    }
+}
+
+/// The number of bits of the net of that id in a module: 1 to 4,096, or 0 where it isn't there.
+pub fn width_of(holder: &PModule, id: NetId) -> u16
+    requires { HasNets holder.now }
+    ensures { result ≡ width_of (net_of holder.now id) }
+{
+    match net_of(holder, id) {
+        Some(net) => width(net.range),
+        None => 0,
     }
 }

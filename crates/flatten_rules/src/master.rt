@@ -4,7 +4,7 @@ ghost use Rattle.flatten_rules.specs.Lookup.{net_of, width_of};
 ghost use Rattle.flatten_rules.specs.Sound.{HasMaster, FitPorts, FitsPort, IsSource, IsAllowed};
 ghost use Rattle.flatten_rules.specs.Checks.{HasNets};
 
-use crate::lookup::{module_of, net_of, width};
+use crate::lookup::{module_of, width_of};
 use emh_base::{Conn, NetId, PInst, PModule, PPort, Plain, Range, Src};
 
 /// Whether the masters of a module's instances are there, with connections that fit their ports.
@@ -59,7 +59,7 @@ fn fits_port(holder: &PModule, master: &PModule, port: &PPort, conn: &Conn) -> b
     match conn {
         Conn::Open => true,
         Conn::Bits(bits) => {
-            if bits.len() != usize::from(net_width(master, port.net)) {
+            if bits.len() != usize::from(width_of(master, port.net)) {
                 return false;
             }
             are_sources(holder, bits.as_slice())
@@ -81,17 +81,6 @@ fn is_source(holder: &PModule, source: &Src) -> bool
     match source {
         Src::Tie0 => true,
         Src::Tie1 => true,
-        Src::Bit(net, offset) => *offset < net_width(holder, *net),
-    }
-}
-
-/// The bits of a net, none where it isn't there.
-fn net_width(holder: &PModule, id: NetId) -> u16
-    requires { HasNets holder.now }
-    ensures { result ≡ width_of (net_of holder.now id) }
-{
-    match net_of(holder, id) {
-        Some(net) => width(net.range),
-        None => 0,
+        Src::Bit(net, offset) => *offset < width_of(holder, *net),
     }
 }

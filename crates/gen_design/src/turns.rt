@@ -8,7 +8,7 @@ ghost use Rattle.gen_design.specs.Turn.{after_turn, at_inst, at_port, drawn_from
 use crate::made::numbered_name;
 use crate::random::{drawn, given};
 use emh_base::{Edit, List, ModId, NetId, NoMemory, PInst, PModule, PPort, Plain, Src};
-use flatten_rules::{module_of, net_of, width};
+use flatten_rules::{module_of, width_of};
 use std::alloc::Global;
 
 /// What a turn of random edits does, and the random number after it.
@@ -179,10 +179,7 @@ fn port_width(plain: &Plain, id: ModId, port: NetId) -> u16
 {
     match module_of(plain, id) {
         None => 0,
-        Some(holder) => match net_of(holder, port) {
-            None => 0,
-            Some(net) => width(net.range),
-        },
+        Some(holder) => width_of(holder, port),
     }
 }
 

@@ -1,25 +1,12 @@
 -- Pins that are counted by the net bits that they lead to.
-use Rattle.std.proofs.Common.{◌≡◌, ℕ, ◌+◌, ◌==◌, nat_lt, Bool, true, false, cond, ◌&&◌, List, Some, unwrap_or, refl, sym, ap, ◌∙◌, arith, Ordering, Less, Equal, Greater, is_eq}
+use Rattle.std.proofs.Common.{◌≡◌, ℕ, ◌+◌, ◌==◌, Bool, true, false, cond, ◌&&◌, List, Some, unwrap_or, refl, ap, ◌∙◌, arith, is_eq}
 use Rattle.std.specs.Map.{lookup}
 use Rattle.std.specs.Ordering.{nat_cmp, ordering_then}
-use Rattle.std.proofs.lemmas.Bool.Decides.{nat_tests}
+use Rattle.flatten_rules.proofs.Keys.{then-eq, tied-numbers}
 use Rattle.emh_base.specs.Path.{path_cmp}
 use Rattle.reports.specs.Net.{is_same}
 use Rattle.reports.specs.inside.PinCounts.{Key, key_cmp, root_at, count_at, CountsPin}
 use Rattle.reports.proofs.Roots.{same-root}
-
-then-eq : (a b : Ordering) → is_eq (ordering_then a b) ≡ is_eq a && is_eq b
-then-eq Less b = refl
-then-eq Equal b = refl
-then-eq Greater b = refl
-
-tied : (less same : Bool) → (less ≡ true → same ≡ false) → is_eq (cond less Less (cond same Equal Greater)) ≡ same
-tied true same never = sym (never refl)
-tied false true never = refl
-tied false false never = refl
-
-tied-numbers : (a b : ℕ) → is_eq (nat_cmp a b) ≡ (a == b)
-tied-numbers a b = tied (nat_lt a b) (a == b) (λ less. grind (arith, nat_tests))
 
 -- keys are equal where their roots are one
 same-key : (key at : Key) → is_eq (key_cmp key at) ≡ is_same (root_at at) (root_at key)

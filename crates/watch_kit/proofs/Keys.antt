@@ -1,23 +1,11 @@
 -- Net bits as keys.
-use Rattle.std.proofs.Common.{◌≡◌, ℕ, ◌==◌, nat_lt, Bool, true, false, cond, ◌&&◌, refl, sym, ap₂, ◌∙◌, arith, Ordering, Less, Equal, Greater, is_eq}
-use Rattle.std.specs.Ordering.{nat_cmp, ordering_then}
+use Rattle.std.proofs.Common.{◌≡◌, ℕ, ◌==◌, Bool, true, false, ◌&&◌, refl, ap₂, ◌∙◌, arith, is_eq}
+use Rattle.std.specs.Ordering.{nat_cmp}
 use Rattle.std.proofs.lemmas.Bool.Decides.{nat_tests}
+use Rattle.flatten_rules.proofs.Keys.{then-eq, tied-numbers}
 use Rattle.watch_kit.specs.declared.net_bits.BitOf.{BitOf as Key}
 use Rattle.watch_kit.specs.FanoutLimit.{same_bit}
 use Rattle.watch_kit.specs.inside.Keys.{bit_of, key_cmp}
-
-then-eq : (a b : Ordering) → is_eq (ordering_then a b) ≡ is_eq a && is_eq b
-then-eq Less b = refl
-then-eq Equal b = refl
-then-eq Greater b = refl
-
-tied : (less same : Bool) → (less ≡ true → same ≡ false) → is_eq (cond less Less (cond same Equal Greater)) ≡ same
-tied true same never = sym (never refl)
-tied false true never = refl
-tied false false never = refl
-
-tied-numbers : (a b : ℕ) → is_eq (nat_cmp a b) ≡ (a == b)
-tied-numbers a b = tied (nat_lt a b) (a == b) (λ less. grind (arith, nat_tests))
 
 -- keys are equal where they are one net bit
 pub same-key : (a b : Key) → is_eq (key_cmp a b) ≡ same_bit (bit_of a) (bit_of b)

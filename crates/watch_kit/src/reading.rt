@@ -2,36 +2,14 @@ ghost use Rattle.std.specs.Prelude.{◌≡◌, ◌+◌, ◌≤◌, length, find,
 ghost use Rattle.std.specs.Option.{option_copied};
 ghost use Rattle.flatten_rules.specs.Lookup.{module_of, insts_of};
 ghost use Rattle.flatten_rules.specs.Sound.{IsSound};
-ghost use Rattle.edit_rules.specs.Readers.{conn_of, inst_in, is_name_in, net_in, nets_of, next_inst_of, next_net_of, port_place, same_dir};
+ghost use Rattle.edit_rules.specs.Readers.{conn_of, inst_in, is_name_in, nets_of, next_inst_of, next_net_of, port_place, same_dir};
 ghost use Rattle.watch_kit.specs.Sinks.{taken};
 ghost use Rattle.watch_kit.specs.Split.{port_to};
 ghost use Rattle.watch_kit.specs.inside.Counting.{FitsMaster};
 
 use edit_rules::Facts;
-use emh_base::{Conn, Dir, InstId, ModId, NetId, PInst, PModule, PNet, PPort, Plain, Src, State};
-use flatten_rules::{find, module_of, net_of};
-
-/// A net of a module.
-pub fn net_in(plain: &Plain, id: ModId, net: NetId) -> Option<&PNet>
-    requires { IsSound plain.now }
-    ensures { option_copied result ≡ net_in plain.now id net }
-{
-    match module_of(plain, id) {
-        None => None,
-        Some(holder) => net_of(holder, net),
-    }
-}
-
-/// An instance in a module.
-fn inst_in(plain: &Plain, id: ModId, inst: InstId) -> Option<&PInst>
-    requires { IsSound plain.now }
-    ensures { option_copied result ≡ inst_in plain.now id inst }
-{
-    match module_of(plain, id) {
-        None => None,
-        Some(holder) => find(holder.insts.as_slice(), inst.0),
-    }
-}
+use emh_base::{Conn, Dir, InstId, ModId, NetId, PInst, PModule, PPort, Plain, Src, State};
+use flatten_rules::{inst_in, module_of};
 
 /// The instances of a module; none where it isn't there.
 pub fn insts_of(plain: &Plain, id: ModId) -> &[PInst]

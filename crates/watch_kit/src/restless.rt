@@ -3,10 +3,10 @@ ghost use Rattle.flatten_rules.specs.Sound.{IsSound};
 ghost use Rattle.edit_rules.specs.Good.{IsGoodState};
 ghost use Rattle.watch_kit.specs.Restless.{restless, rename_to, turn_net, turned};
 
-use crate::reading::net_in;
 use desk::Desk;
 use emh_base::{Change, Edit, List, ModId, Name, NetId, NoMemory, State};
 use emh_session::{Halt, Observer, give_all};
+use flatten_rules::net_in;
 use std::alloc::Global;
 
 /// Renames each net that is made or renamed and whose name ends in `_p`, so that it ends in `_q`,

@@ -80,7 +80,8 @@ fn is_inner(plain: &Plain, id: ModId) -> bool
 #[test]
 fn netlists_are_written_and_read_again(rt: HostRuntime) -> Result<(), Fail> {
     for source in SOURCES {
-        let table = read(rt.alloc(), source.text)?;
+        let netlist = source.netlist(rt.alloc())?;
+        let table = read(rt.alloc(), netlist.as_slice())?;
         let text = written(&table)?;
         assert_eq!(rt; from_utf8(text.as_slice())?, source.written);
         let again = read(rt.alloc(), text.as_slice())?;

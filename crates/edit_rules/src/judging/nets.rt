@@ -69,23 +69,7 @@ pub fn create_net<F: Facts>(
     requires { IsGoodState (F.state facts.now) }
     ensures { Looks (create_net_rules (F.state facts.now) id name.now range) result }
 {
-    common(facts, id)?;
-    keep(
-        Rule::NameTaken,
-        Object::NewName,
-        facts.is_named_in(id, name.as_bytes()),
-    )?;
-    keep(Rule::RangeTooWide, Object::NewName, is_too_wide(range))?;
-    keep(
-        Rule::TooManyObjects,
-        Object::Module(id),
-        lacks_room(facts.counters(id).next_net, 1),
-    )?;
-    keep(
-        Rule::TooManyBits,
-        Object::Module(id),
-        makes_too_many_bits(facts, id, range),
-    )
+    new_net(facts, id, name, range)
 }
 
 /// Looks at the rules of a CreatePort.
@@ -98,6 +82,15 @@ pub fn create_port<F: Facts>(
 ) -> Result<(), Judged>
     requires { IsGoodState (F.state facts.now) }
     ensures { Looks (create_port_rules (F.state facts.now) id name.now dir range) result }
+{
+    new_net(facts, id, name, range)
+}
+
+/// Looks at the rules of a net more in a module, with a port on it or without.
+fn new_net<F: Facts>(facts: &F, id: ModId, name: &Name, range: Option<Range>) -> Result<(), Judged>
+    requires { IsGoodState (F.state facts.now) }
+    ensures net { Looks (create_net_rules (F.state facts.now) id name.now range) result }
+    ensures port { (dir : Dir) → Looks (create_port_rules (F.state facts.now) id name.now dir range) result }
 {
     common(facts, id)?;
     keep(

@@ -2,7 +2,7 @@ use Rattle.std.proofs.Common.{◌==◌, sym}
 use Rattle.emh_base.specs.declared.plain.PNet.{PNet}
 use Rattle.flatten_rules.specs.Sound.{IsAllowed}
 use Rattle.flatten_rules.proofs.Sound.{All-find}
-use Rattle.flatten_rules.proofs.master.net_width.Goals as goal
+use Rattle.flatten_rules.proofs.lookup.width_of.Goals as goal
 
 pub width-requires : goal.width-requires
 width-requires c =

@@ -1,7 +1,0 @@
-use Rattle.std.proofs.Common.{sym}
-use Rattle.flatten_rules.proofs.Sound.{sound-module}
-use Rattle.emh_shell.proofs.objects.net_in.Goals as goal
-
-pub net_of-requires : goal.net_of-requires
-net_of-requires c =
-    (sound-module c.args.plain.now c.args.«module» c.in-Some.holder.now c.requires (sym c.in-Some.ensures)).nets_rise
