@@ -1,7 +1,12 @@
 pub mod Kept
 pub mod Wires
 pub mod Roots
-pub mod Counting
+pub mod Lists
+pub mod Below
+pub mod PinsAt
+pub mod Along
+pub mod Links
+pub mod Filling
 pub mod WorkedBlock
 pub mod Looking
 pub mod Descending

@@ -1,6 +1,5 @@
 -- The lines of the nets that are no port's.
-use Rattle.std.proofs.Common.{◌≡◌, ℕ, ◌<◌, ◌==◌, Bool, true, false, cond, not, List, [], length, get_or, slice_get, Option, Some, None, is_some, find, position, IsSome, refl, sym, ap, ◌∙◌, subst}
-use Rattle.std.proofs.lemmas.Option.{get_or_from_slice_get}
+use Rattle.std.proofs.Common.{◌≡◌, ℕ, ◌<◌, ◌==◌, Bool, true, false, cond, not, List, [], length, get_or, Option, Some, None, is_some, find, position, refl, sym, ap, ◌∙◌}
 use Rattle.emh_base.specs.declared.plain.PNet.{PNet}
 use Rattle.emh_base.specs.declared.plain.PPort.{PPort}
 use Rattle.emh_base.specs.declared.plain.PModule.{PModule}

@@ -1,18 +1,18 @@
-ghost use Rattle.std.specs.Prelude.{◌≡◌, [], ◌∷◌, ◌++◌, Some, length, take, map, reverse, codes, OnOk, OnErr, if◌then◌else◌};
+ghost use Rattle.std.specs.Prelude.{◌≡◌, [], ◌∷◌, ◌++◌, Some, false, length, take, map, reverse, codes, OnOk, OnErr, if◌then◌else◌};
 ghost use Rattle.std.specs.List.{flat_map, range_with_len};
 ghost use Rattle.std.specs.Fmt.{decimal, signed_decimal};
 ghost use Rattle.emh_base.specs.Text.{dir_text, spell};
 ghost use Rattle.flatten_rules.specs.Lookup.{module_of, width};
 ghost use Rattle.flatten_rules.specs.Unfolding.{module_up};
 ghost use Rattle.flatten_rules.specs.Root.{root_up};
-ghost use Rattle.flatten_rules.specs.Domains.{is_own, terminals, block_instances, block_nets, bits_of_net};
+ghost use Rattle.flatten_rules.specs.Domains.{is_leaf, is_own, terminals, block_instances, block_nets, bits_of_net};
 ghost use Rattle.flatten_rules.specs.Texts.{net_up};
+ghost use Rattle.flatten_rules.specs.Limits.{WalksAreShort};
 ghost use Rattle.flatten_rules.specs.Sound.{IsAllowed, IsSoundModule};
 ghost use Rattle.flatten_rules.specs.Design.{IsGood};
 ghost use Rattle.reports.specs.Line.{line, path_word, bit_word};
-ghost use Rattle.reports.specs.Net.{pins_led_to};
 ghost use Rattle.reports.specs.Block.{term_line, term_lines, placement_words, inst_line, pin_count, net_line, block_text};
-ghost use Rattle.reports.specs.inside.PinCounts.{Key, root_at, count_at};
+ghost use Rattle.reports.specs.inside.PinCounts.{AreCounted};
 ghost use Rattle.reports.specs.inside.Spaced.{spaced};
 
 use crate::pin_counts::PinCounts;
@@ -38,10 +38,9 @@ pub fn push_block(
     ensures ok { OnOk result (out.new ≡ out.old ++ block_text plain.now top places.now) }
     ensures err { OnErr result (take (length out.old) out.new ≡ out.old) }
 {
-    let counts = PinCounts::of_pins(alloc, plain, top)?;
     push_terms(alloc, plain, top, out)?;
     push_insts(alloc, plain, top, places, out)?;
-    push_nets(alloc, plain, top, &counts, out)
+    push_nets(alloc, plain, top, out)
 }
 
 /// Puts the lines of the bits of the top's ports last.
@@ -222,23 +221,16 @@ fn push_signed(number: i32, out: &mut List<u8>) -> Result<(), NoMemory>
 }
 
 /// Puts the lines of the block nets last, with how many pins are counted at each.
-fn push_nets(
-    alloc: Global,
-    plain: &Plain,
-    top: ModId,
-    counted: &PinCounts,
-    out: &mut List<u8>,
-) -> Result<(), NoMemory>
-    requires good { IsGood plain.now top }
-    requires counted { (key : Key) → count_at counted.now.counts.entries key
-        ≡ length (pins_led_to plain.now top (root_at key)) }
+fn push_nets(alloc: Global, plain: &Plain, top: ModId, out: &mut List<u8>) -> Result<(), NoMemory>
+    requires { IsGood plain.now top }
     ensures ok { OnOk result (out.new
         ≡ out.old ++ flat_map (net_line plain.now top) (block_nets plain.now top)) }
     ensures err { OnErr result (take (length out.old) out.new ≡ out.old) }
 {
+    let mut counts = PinCounts::new(alloc, plain)?;
     let mut bits = BitWalk::new(alloc, plain, top)?;
     while let Some((net, offset)) = bits.next()? {
-        push_if_own(alloc, bits.way(), net, offset, counted, out)?;
+        push_if_own(alloc, bits.way(), net, offset, &mut counts, out)?;
     }
     Ok(())
 }
@@ -249,13 +241,15 @@ fn push_if_own(
     way: &Way<'_>,
     net: &PNet,
     offset: u16,
-    counted: &PinCounts,
+    counts: &mut PinCounts,
     out: &mut List<u8>,
 ) -> Result<(), NoMemory>
+    requires walks { WalksAreShort way.now.plain }
+    requires inner { is_leaf (module_up way.now.plain way.now.top (reverse way.now.path)) ≡ false }
     requires there { net_up way.now.plain way.now.top (reverse way.now.path) net.now.id
         ≡ Some net.now }
-    requires counted { (key : Key) → count_at counted.now.counts.entries key
-        ≡ length (pins_led_to way.now.plain way.now.top (root_at key)) }
+    requires counted { AreCounted way.now.plain counts.old.modules.items }
+    ensures counted { OnOk result (AreCounted way.now.plain counts.new.modules.items) }
     ensures ok { OnOk result (out.new ≡ out.old
         ++ (if is_own (record { path = way.now.path; net = net.now.id; offset = offset })
         (root_up way.now.plain way.now.top (reverse way.now.path) net.now.id offset)
@@ -265,7 +259,7 @@ fn push_if_own(
     ensures err { OnErr result (take (length out.old) out.new ≡ out.old) }
 {
     if way.is_own(net.id, offset) {
-        let count = counted.at(&(way.path(alloc)?, net.id, offset));
+        let count = counts.at(alloc, way.plain(), way.module().id, net.id, offset)?;
         push_net_line(way, net, offset, count, out)
     } else {
         Ok(())

@@ -81,12 +81,19 @@ fn count_pins(alloc: Global, plain: &Plain, top: ModId) -> Result<u64, NoMemory>
     Ok(all)
 }
 
-/// The next number. A count past 64 bits is told as want of memory: no walk comes so far.
+/// The next number.
 pub fn one_more(count: u64) -> Result<u64, NoMemory>
     ensures { IfOk result (λ n. n ≡ count + 1) }
 {
-    match count.checked_add(1) {
-        Some(more) => Ok(more),
+    more_by(count, 1)
+}
+
+/// A number that is so much greater. A count past 64 bits is told as want of memory: no walk comes so far.
+pub fn more_by(count: u64, more: u64) -> Result<u64, NoMemory>
+    ensures { IfOk result (λ n. n ≡ count + more) }
+{
+    match count.checked_add(more) {
+        Some(sum) => Ok(sum),
         None => Err(NoMemory),
     }
 }

@@ -1,5 +1,5 @@
 use Rattle.std.proofs.Common.{◌≡◌, ◌++◌, take, length}
-use Rattle.std.specs.List.{flat_map, filter, zip}
+use Rattle.std.specs.List.{flat_map, zip}
 use Rattle.reports.specs.Modules.{conn_line}
 use Rattle.reports.proofs.modules.push_conns.Given as goal
 

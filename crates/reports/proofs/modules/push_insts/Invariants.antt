@@ -1,5 +1,5 @@
 use Rattle.std.proofs.Common.{◌≡◌, ◌++◌, take, length}
-use Rattle.std.specs.List.{flat_map, filter, zip}
+use Rattle.std.specs.List.{flat_map}
 use Rattle.reports.specs.Modules.{inst_lines}
 use Rattle.reports.proofs.modules.push_insts.Given as goal
 

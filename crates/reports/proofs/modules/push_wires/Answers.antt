@@ -1,4 +1,4 @@
-use Rattle.std.proofs.Common.{ℕ, ◌<◌, get_or, List, [], None, length, ap, sym, subst, ◌++◌, ◌∙◌, arith, take}
+use Rattle.std.proofs.Common.{◌<◌, get_or, List, None, length, ap, subst, ◌++◌, ◌∙◌, arith}
 use Rattle.std.specs.List.{flat_map}
 use Rattle.std.proofs.lemmas.List.{take_all, get_or_default}
 use Rattle.emh_base.specs.declared.plain.PNet.{PNet}

@@ -1,6 +1,5 @@
 use Rattle.std.proofs.Common.{◌≡◌, ◌++◌, take, length, map}
 use Rattle.std.specs.List.{flat_map, range_with_len}
-use Rattle.flatten_rules.specs.Domains.{NetBit}
 use Rattle.reports.specs.Occurrences.{bit_line}
 use Rattle.reports.proofs.Kept.{bit_at}
 use Rattle.reports.proofs.occurrences.push_net_bits.Given as goal

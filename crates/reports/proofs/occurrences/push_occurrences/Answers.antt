@@ -1,5 +1,4 @@
-use Rattle.std.proofs.Common.{◌≡◌, ◌++◌, Some, reverse, ap, ◌∙◌}
-use Rattle.flatten_rules.specs.Unfolding.{module_up}
+use Rattle.std.proofs.Common.{◌≡◌, ◌++◌, ap, ◌∙◌}
 use Rattle.reports.specs.Occurrences.{occurrence_lines}
 use Rattle.emh_base.specs.declared.ids.ModId.{ModId}
 use Rattle.emh_base.specs.declared.plain.Plain.{Plain}

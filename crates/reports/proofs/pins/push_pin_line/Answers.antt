@@ -1,4 +1,3 @@
-use Rattle.std.proofs.Common.{◌∙◌, ap, ◌++◌, append_assoc}
 use Rattle.reports.proofs.Kept.{kept_more, kept_text, on_err}
 use Rattle.reports.proofs.pins.push_pin_line.Goals as goal
 
