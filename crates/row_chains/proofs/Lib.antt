@@ -1,0 +1,5 @@
+pub mod KeyLemmas
+pub mod ChainLemmas
+pub mod TableLemmas
+pub mod PaysLemmas
+pub mod LiveLemmas
