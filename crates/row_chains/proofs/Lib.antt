@@ -3,3 +3,4 @@ pub mod ChainLemmas
 pub mod TableLemmas
 pub mod PaysLemmas
 pub mod LiveLemmas
+pub mod FindLemmas

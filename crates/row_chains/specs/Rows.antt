@@ -1,5 +1,5 @@
 -- Chains of a table's rows. A row of the table need not be in the chain that is spoken of.
-use Rattle.std.specs.Prelude.{◌≡◌, ℕ, ◌≤◌, ◌==◌, Bool, false, List, length, Option, Some, None, option_map, option_and_then}
+use Rattle.std.specs.Prelude.{◌≡◌, ℕ, ◌≤◌, ◌==◌, Bool, false, List, length, Option, Some, None, option_map, option_and_then, find}
 use Rattle.std.specs.List.{filter_map}
 use Rattle.std.specs.FinMap as map
 use Rattle.timeline.specs.Maps.{put}
@@ -66,3 +66,13 @@ is_numbered number_of m number k = row_is_numbered number_of number (map.get m k
 -- the ends of the chains that a table's rows own
 abbrev pub ends_in : {O : Type 0} → ChainHolders O → Rows O → ℕ → Option Ends
 ends_in H m k = option_map H.ends_of (map.get m k)
+
+-- the key of the first row with a number in the chain that a row owns; none where that row isn't there
+module _ {R O : Type 0} (C : ChainRows R) (H : ChainHolders O) (number_of : R → ℕ) (m : Rows R) where
+  abbrev pub key_under : ℕ → Option O → Option ℕ
+  key_under number None = None
+  key_under number (Some holder) =
+      find (is_numbered number_of m number) (keys C m (H.ends_of holder).first)
+
+  abbrev pub key_in : Rows O → ℕ → ℕ → Option ℕ
+  key_in holders owner number = key_under number (map.get holders owner)

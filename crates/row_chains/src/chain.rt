@@ -1,8 +1,8 @@
 ghost use Rattle.std.specs.Prelude.{◌≡◌, ℕ, ◌≤◌, List, Some, IsSome, true, option_map, find};
 ghost use Rattle.std.specs.FinMap as map;
 ghost use Rattle.timeline.specs.Maps.{put};
-ghost use Rattle.row_chains.specs.Chains.{next_of, ends_with, ends_without};
-ghost use Rattle.row_chains.specs.Rows.{ChainRows, ChainHolders, IsWay, is_numbered, keys, lead_at, follow_at};
+ghost use Rattle.row_chains.specs.Chains.{AreChains, next_of, ends_with, ends_without};
+ghost use Rattle.row_chains.specs.Rows.{ChainRows, ChainHolders, IsWay, is_numbered, key_in, keys, links, ends_in, lead_at, follow_at};
 ghost use Rattle.row_chains.specs.Pays.{Pays};
 
 use crate::link::{Ends, Link};
@@ -63,6 +63,24 @@ pub fn find<R: Copy, O: Copy, C: Chain<R, O> + Numbered<R>>(
         at = chain.next(row);
     }
     None
+}
+
+/// The key of the first row with a number in the chain that a row owns.
+pub fn find_under<R: Copy, O: Copy, C: Chain<R, O> + Numbered<R>>(
+    chain: &C,
+    rows: &Table<R>,
+    holders: &Table<O>,
+    owner: usize,
+    number: u32,
+) -> Option<usize>
+    requires chains { AreChains (links C.rows rows.now.now) (ends_in C.holders holders.now.now) }
+    ensures { result ≡ key_in C.rows C.holders C.number_of rows.now.now holders.now.now owner
+        number }
+{
+    match holders.get(owner) {
+        Some(holder) => find(chain, rows, chain.ends(holder).first, number),
+        None => None,
+    }
 }
 
 /// The row at the key, where there is one, has another one behind it.

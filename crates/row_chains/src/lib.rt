@@ -4,5 +4,5 @@
 mod chain;
 mod link;
 
-pub use chain::{Chain, Numbered, append, detach, find};
+pub use chain::{Chain, Numbered, append, detach, find, find_under};
 pub use link::{Ends, Link};
