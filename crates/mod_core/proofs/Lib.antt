@@ -5,3 +5,6 @@ pub mod PortLemmas
 pub mod ModuleLemmas
 pub mod KeptLemmas
 pub mod NewLemmas
+pub mod LookupLemmas
+pub mod TwiceLemmas
+pub mod EffectLemmas

@@ -1,10 +1,19 @@
 ghost use Rattle.std.specs.Prelude.{◌≡◌, ℕ, ◌+◌, ◌-◌, ◌<◌, ◌≤◌, [], ◌∷◌, ◌++◌, length, IsSome, OnOk, IfOk, IsSomeAnd, true, false, drop, Some, None};
 ghost use Rattle.timeline.specs.Timeline.{Moves, new_timeline};
-ghost use Rattle.flatten_rules.specs.Lookup.{no_modules};
+ghost use Rattle.row_chains.specs.Pays.{Pays};
+ghost use Rattle.emh_base.specs.declared.plain.PModule.{PModule};
+ghost use Rattle.flatten_rules.specs.Lookup.{module_of, no_modules};
+ghost use Rattle.flatten_rules.specs.Changes.{net_in, port_in};
+ghost use Rattle.flatten_rules.specs.ModuleChanges.{create_module};
+ghost use Rattle.flatten_rules.specs.NetChanges.{create_net, delete_net};
+ghost use Rattle.mod_core.specs.Mods.{name_at};
 
+use crate::chains::{Modules, Nets};
+use crate::modules::module_in;
+use crate::nets::{net_in, net_out};
 use crate::rows::{ModRow, NetRow, TopRow};
-use emh_base::{NoMemory, Pool};
-use row_chains::Ends;
+use emh_base::{ModId, NetId, NoMemory, Pool, Range};
+use row_chains::{Ends, find_under};
 use std::alloc::Global;
 use std::marker::Model;
 use undo_slots::Table;
@@ -203,5 +212,59 @@ impl Mods {
         ensures { result ≡ length self.now.table.future }
     {
         self.nets.future_len()
+    }
+
+    /// Puts a new module without content last. Its id is the counter's value. At most three writes. Condition: a record
+    /// is open, there are spare rows and writes, the name is the pool's, and the counter has not come to its end.
+    pub fn create_module(&mut self, name: usize)
+        requires open { self.old.table.is_open ≡ true }
+        requires room { 1 ≤ self.old.table.spare_rows }
+        requires spare { 2 ≤ self.old.table.spare_writes }
+        requires name { name < length self.old.names }
+        requires few { self.old.table.now.next_module < 4294967295 }
+        ensures names { self.new.names ≡ self.old.names }
+        ensures table { self.new.table.now
+            ≡ create_module self.old.table.now (name_at self.old.names name) }
+        ensures pays { Pays 3 self.old.table self.new.table }
+    {
+        module_in(&mut self.tops, &mut self.mods, self.top, name);
+    }
+
+    /// Puts a new net last in a module. Its id is the module's counter. At most three writes. Condition: a record is
+    /// open, there are spare rows and writes, the name is the pool's, the module is there, and its counter has not come
+    /// to its end.
+    pub fn create_net(&mut self, module: ModId, name: usize, range: Option<Range>)
+        requires open { self.old.table.is_open ≡ true }
+        requires room { 1 ≤ self.old.table.spare_rows }
+        requires spare { 2 ≤ self.old.table.spare_writes }
+        requires name { name < length self.old.names }
+        requires live { IsSome (module_of self.old.table.now «module») }
+        requires few { (m : PModule) → module_of self.old.table.now «module» ≡ Some m
+            → m.next_net < 4294967295 }
+        ensures names { self.new.names ≡ self.old.names }
+        ensures table { self.new.table.now
+            ≡ create_net self.old.table.now «module» (name_at self.old.names name) range }
+        ensures pays { Pays 3 self.old.table self.new.table }
+    {
+        let owner = find_under(&Modules, &self.mods, &self.tops, self.top, module.0).unwrap();
+        let row = self.mods.get(owner).unwrap();
+        let id = NetId(row.next_net);
+        net_in(&mut self.mods, &mut self.nets, owner, id, name, range);
+    }
+
+    /// Takes a net that is no port out of its module. At most four writes. Condition: a record is open, there are spare
+    /// writes, and the net is there.
+    pub fn delete_net(&mut self, module: ModId, net: NetId)
+        requires open { self.old.table.is_open ≡ true }
+        requires spare { 3 ≤ self.old.table.spare_writes }
+        requires live { IsSome (net_in self.old.table.now «module» net) }
+        requires alone { port_in self.old.table.now «module» net ≡ None }
+        ensures names { self.new.names ≡ self.old.names }
+        ensures table { self.new.table.now ≡ delete_net self.old.table.now «module» net }
+        ensures pays { Pays 4 self.old.table self.new.table }
+    {
+        let owner = find_under(&Modules, &self.mods, &self.tops, self.top, module.0).unwrap();
+        let key = find_under(&Nets, &self.nets, &self.mods, owner, net.0).unwrap();
+        net_out(&mut self.mods, &mut self.nets, key);
     }
 }
