@@ -23,10 +23,6 @@ use Rattle.mod_core.specs.inside.Changes.{joined_rows, joined_ends, new_port}
 use Rattle.mod_core.proofs.NumberLemmas.{WasNet, nets_from as numbered_from}
 use Rattle.mod_core.proofs.TableLemmas.{unequal, itself, changed_chains, changed_numbered, changed_counted, changed_ends, changed_table}
 
--- the module with a port more, on a net that is there
-abbrev pub with_port_on : NetRow → Dir → PModule → PModule
-with_port_on net dir m = record m { ports = m.ports ++ record { net = net.id; dir = dir } ∷ [] }
-
 -- the module with a port less, whose net stays
 abbrev pub without_port_on : NetRow → PModule → PModule
 without_port_on net m = record m { ports = filter (λ (other : PPort). not (other.net.0 == net.id.0)) m.ports }
@@ -127,9 +123,10 @@ module _ (names : List (List ℕ)) (top : ℕ) (up : Upper) (nets : Rows NetRow)
   ports_other : (o : ℕ) (r : ModRow) → o ≢ owner → rows.get up.mods o ≡ Some r → ports_from nets_in r.ports ≡ ports_from nets r.ports
   ports_other o r d there = appended_other port_rows nets mid (ends_in port_holders up.mods) (ends_in port_holders mods_in) owner key row.ports g.ports_of ends_change no_link new_link same_links (port_shown nets) (port_shown nets_in) port_shows o r.ports d (ap (option_map port_holders.ends_of) there)
 
-  pub port_in_table : table_of names top (upper up.tops mods_in) nets_in ≡ with_module (table_of names top up nets) row.id (with_port_on net dir)
-  port_in_table = changed_table names top up mods_in nets nets_in g owner row grown was becomes_in others_in refl (with_port_on net dir)
-      (λ i. record (module_of_row names nets row) { nets = nets_same owner row was i; ports = ports_listed i })
+  pub port_in_table : (change : PModule → PModule) → record (module_of_row names nets row) { ports = ports_from nets row.ports ++ record { net = net.id; dir = dir } ∷ [] } ≡ change (module_of_row names nets row)
+      → table_of names top (upper up.tops mods_in) nets_in ≡ with_module (table_of names top up nets) row.id change
+  port_in_table change is = changed_table names top up mods_in nets nets_in g owner row grown was becomes_in others_in refl change
+      ((λ i. record (module_of_row names nets row) { nets = nets_same owner row was i; ports = ports_listed i }) ∙ is)
       (λ o r d there. λ i. record (module_of_row names nets r) { nets = nets_same o r there i; ports = ports_other o r d there i })
 
   face_new : net_faces nets_in key ≡ Some (net_face with_port)

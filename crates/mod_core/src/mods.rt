@@ -5,14 +5,15 @@ ghost use Rattle.emh_base.specs.declared.plain.PModule.{PModule};
 ghost use Rattle.flatten_rules.specs.Lookup.{module_of, no_modules};
 ghost use Rattle.flatten_rules.specs.Changes.{net_in, port_in};
 ghost use Rattle.flatten_rules.specs.ModuleChanges.{create_module};
-ghost use Rattle.flatten_rules.specs.NetChanges.{create_net, delete_net};
+ghost use Rattle.flatten_rules.specs.NetChanges.{create_net, delete_net, create_port};
 ghost use Rattle.mod_core.specs.Mods.{name_at};
 
 use crate::chains::{Modules, Nets};
 use crate::modules::module_in;
 use crate::nets::{net_in, net_out};
+use crate::ports::port_in;
 use crate::rows::{ModRow, NetRow, TopRow};
-use emh_base::{ModId, NetId, NoMemory, Pool, Range};
+use emh_base::{Dir, ModId, NetId, NoMemory, Pool, Range};
 use row_chains::{Ends, find_under};
 use std::alloc::Global;
 use std::marker::Model;
@@ -266,5 +267,26 @@ impl Mods {
         let owner = find_under(&Modules, &self.mods, &self.tops, self.top, module.0).unwrap();
         let key = find_under(&Nets, &self.nets, &self.mods, owner, net.0).unwrap();
         net_out(&mut self.mods, &mut self.nets, key);
+    }
+
+    /// Puts a new net and a port on it last in a module. At most six writes. Condition: as for `create_net`.
+    pub fn create_port(&mut self, module: ModId, name: usize, dir: Dir, range: Option<Range>)
+        requires open { self.old.table.is_open ≡ true }
+        requires room { 1 ≤ self.old.table.spare_rows }
+        requires spare { 4 ≤ self.old.table.spare_writes }
+        requires name { name < length self.old.names }
+        requires live { IsSome (module_of self.old.table.now «module») }
+        requires few { (m : PModule) → module_of self.old.table.now «module» ≡ Some m
+            → m.next_net < 4294967295 }
+        ensures names { self.new.names ≡ self.old.names }
+        ensures table { self.new.table.now
+            ≡ create_port self.old.table.now «module» (name_at self.old.names name) dir range }
+        ensures pays { Pays 6 self.old.table self.new.table }
+    {
+        let owner = find_under(&Modules, &self.mods, &self.tops, self.top, module.0).unwrap();
+        let row = self.mods.get(owner).unwrap();
+        let id = NetId(row.next_net);
+        let key = net_in(&mut self.mods, &mut self.nets, owner, id, name, range);
+        port_in(&mut self.mods, &mut self.nets, owner, key, dir);
     }
 }
