@@ -1,0 +1,10 @@
+pub mod NumberLemmas
+pub mod TableLemmas
+pub mod NetLemmas
+pub mod PortLemmas
+pub mod ModuleLemmas
+pub mod KeptLemmas
+pub mod NewLemmas
+pub mod LookupLemmas
+pub mod TwiceLemmas
+pub mod EffectLemmas

@@ -1,0 +1,246 @@
+-- The table after a module has come or gone.
+use Rattle.std.proofs.Common.{◌≡◌, ◌≢◌, ℕ, zero, suc, ◌+◌, ◌<◌, ◌≤◌, ◌==◌, not, filter, Bool, true, false, List, [], ◌∷◌, ◌++◌, length, Option, Some, None, option_map, option_and_then, is_some, refl, sym, ap, subst, ◌∙◌, inl, inr, arith}
+use Rattle.std.proofs.lemmas.Bool.{cases_eq}
+use Rattle.std.specs.List.{filter_map}
+use Rattle.std.specs.FinMap as rows
+use Rattle.emh_base.specs.declared.ids.ModId.{ModId}
+use Rattle.emh_base.specs.declared.plain.PModule.{PModule}
+use Rattle.emh_base.specs.declared.plain.Plain.{Plain}
+use Rattle.flatten_rules.specs.ModuleChanges.{empty_module, create_module, delete_module}
+use Rattle.undo_slots.specs.Slots.{Rows}
+use Rattle.row_chains.specs.declared.link.Link.{Link}
+use Rattle.row_chains.specs.declared.link.Ends.{Ends}
+use Rattle.row_chains.specs.Chains.{AreChains, walk, ends_with, ends_without}
+use Rattle.row_chains.specs.Rows.{ChainRows, ChainHolders, links, keys, listed, lead_at, follow_at, ends_in}
+use Rattle.row_chains.proofs.KeyLemmas.{same_some, none_some}
+use Rattle.row_chains.proofs.ChainLemmas.{EndsChange, AreChains-owner, AreChains-no_owner}
+use Rattle.row_chains.proofs.TableLemmas.{get_same, get_other, linked_row, seen-lead_at, seen-follow_at, appended_chains, appended_listed, place, detached_chains, detached_listed}
+use Rattle.mod_core.specs.declared.rows.TopRow.{TopRow}
+use Rattle.mod_core.specs.declared.rows.ModRow.{ModRow}
+use Rattle.mod_core.specs.declared.rows.NetRow.{NetRow}
+use Rattle.mod_core.specs.inside.Linked.{mod_rows, mod_holders, net_rows, net_holders, port_rows, port_holders, net_shown, port_shown, module_of_row, module_shown, modules_from, table_from, table_of, Upper, upper}
+use Rattle.mod_core.specs.inside.Good.{ModFace, mod_face, mod_faces, NetFace, net_face, net_faces, AreModsNumbered, IsGood}
+use Rattle.mod_core.specs.inside.Changes.{empty_chain, joined_rows, joined_ends, new_module}
+use Rattle.mod_core.specs.Mods.{name_at}
+use Rattle.mod_core.proofs.NumberLemmas.{WasModule, WasNet, WasCounted, mods_from, mods_added, nets_from}
+use Rattle.mod_core.proofs.TableLemmas.{unequal, itself}
+
+walk_none : (row : ℕ → Option Link) (steps : ℕ) → walk row steps None ≡ []
+walk_none row zero = refl
+walk_none row (suc steps) = refl
+
+-- an empty chain shows nothing
+pub listed_none : {R X : Type 0} (C : ChainRows R) (f : ℕ → Option X) (m : Rows R) → listed C f m None ≡ []
+listed_none C f m = ap (filter_map f) (walk_none (links C m) (rows.len m))
+
+at_most : (x : ℕ) → x ≤ x
+at_most x = omega arith
+
+-- nets stay where the modules that have nets stay
+module _ (names : List (List ℕ)) (top : ℕ) (up : Upper) (nets : Rows NetRow) (g : IsGood (length names) top up nets) (mods' : Rows ModRow) (kept : (o : ℕ) (a : ModFace) → is_some (rows.get up.mods o) ≡ true → mod_faces mods' o ≡ Some a → mod_faces up.mods o ≡ Some a) where
+  nets_stay : (k : ℕ) (a : NetFace) (m : ModFace) → net_faces nets k ≡ Some a → mod_faces mods' a.owner ≡ Some m → WasCounted (mod_faces up.mods) a.owner m
+  nets_stay k a m at om = record { was = m; at = kept a.owner m (live (rows.get nets k) refl at) om; counted = at_most m.next_net }
+    where
+      live : (o : Option NetRow) → rows.get nets k ≡ o → option_map net_face o ≡ Some a → is_some (rows.get up.mods a.owner) ≡ true
+      live None is e = absurd (none_some a e)
+      live (Some r) is e =
+          ap (λ z. is_some (rows.get up.mods z)) (ap (λ (z : NetFace). z.owner) (sym (same_some (net_face r) a e)))
+          ∙ there (rows.get up.mods r.link.owner) (g.nets_of.owned k r.link (ap (option_and_then net_rows.link_of) is))
+        where
+          there : (o : Option ModRow) → is_some (option_map net_holders.ends_of o) ≡ true → is_some o ≡ true
+          there None h = h
+          there (Some x) h = refl
+
+-- a module comes last
+module _ (names : List (List ℕ)) (top : ℕ) (up : Upper) (nets : Rows NetRow) (g : IsGood (length names) top up nets) (key name : ℕ) (root : TopRow)
+    (was : rows.get up.tops top ≡ Some root) (absent : rows.get up.mods key ≡ None) (few : name < length names) where
+  abbrev pub grown : TopRow
+  grown = record root { next_module = root.next_module + 1; modules = ends_with root.modules key }
+
+  abbrev pub tops_in : Rows TopRow
+  tops_in = rows.insert up.tops top grown
+
+  abbrev new : ModRow
+  new = new_module top root name
+
+  abbrev mid : Rows ModRow
+  mid = rows.insert up.mods key new
+
+  abbrev pub mods_in : Rows ModRow
+  mods_in = lead_at mod_rows mid root.modules.last (Some key)
+
+  root_is : g.root ≡ root
+  root_is = same_some g.root root (sym g.rooted ∙ was)
+
+  becomes : rows.get tops_in top ≡ Some grown
+  becomes = get_same up.tops top (Some grown)
+
+  seen : {X : Type 0} (F : Option ModRow → X) → ((r : ModRow) (to : Option ℕ) → F (Some (mod_rows.lead r to)) ≡ F (Some r)) → (q : ℕ) → q ≢ key → F (rows.get mods_in q) ≡ F (rows.get up.mods q)
+  seen F blind q d = seen-lead_at mod_rows F blind mid root.modules.last (Some key) q ∙ ap F (get_other up.mods key (Some new) q d)
+
+  seen_new : {X : Type 0} (F : Option ModRow → X) → ((r : ModRow) (to : Option ℕ) → F (Some (mod_rows.lead r to)) ≡ F (Some r)) → F (rows.get mods_in key) ≡ F (Some new)
+  seen_new F blind = seen-lead_at mod_rows F blind mid root.modules.last (Some key) key ∙ ap F (get_same up.mods key (Some new))
+
+  ends_change : EndsChange (ends_in mod_holders up.tops) (ends_in mod_holders tops_in) top root.modules (ends_with root.modules key)
+  ends_change = record { was = ap (option_map mod_holders.ends_of) was; becomes = ap (option_map mod_holders.ends_of) becomes; others = λ o d. ap (option_map mod_holders.ends_of) (get_other up.tops top (Some grown) o d) }
+
+  no_link : links mod_rows up.mods key ≡ None
+  no_link = ap (option_and_then mod_rows.link_of) absent
+
+  new_link : links mod_rows mid key ≡ Some (record { owner = top; prev = root.modules.last; next = None })
+  new_link = ap (option_and_then mod_rows.link_of) (get_same up.mods key (Some new))
+
+  same_links : (q : ℕ) → q ≢ key → links mod_rows mid q ≡ links mod_rows up.mods q
+  same_links q d = ap (option_and_then mod_rows.link_of) (get_other up.mods key (Some new) q d)
+
+  new_shown : module_shown names mods_in nets key ≡ Some (empty_module root.next_module (name_at names name))
+  new_shown =
+      seen_new (option_map (module_of_row names nets)) (λ r to. refl)
+      ∙ (λ i. Some (record (empty_module root.next_module (name_at names name)) { nets = listed_none net_rows (net_shown names nets) nets i; ports = listed_none port_rows (port_shown nets) nets i }))
+
+  listed_in : modules_from names mods_in nets grown.modules ≡ modules_from names up.mods nets root.modules ++ empty_module root.next_module (name_at names name) ∷ []
+  listed_in = appended_listed mod_rows up.mods mid (ends_in mod_holders up.tops) (ends_in mod_holders tops_in) top key root.modules g.modules ends_change no_link new_link same_links (module_shown names up.mods nets) (module_shown names mods_in nets) (empty_module root.next_module (name_at names name))
+      (λ k d. seen (option_map (module_of_row names nets)) (λ r to. refl) k d) new_shown
+
+  -- the table has the module
+  pub module_in_table : table_of names top (upper tops_in mods_in) nets ≡ create_module (table_of names top up nets) (name_at names name)
+  module_in_table =
+      ap (table_from names mods_in nets) becomes
+      ∙ (λ i. record { modules = listed_in i; next_module = root.next_module + 1 })
+      ∙ sym (ap (λ o. create_module (table_from names up.mods nets o) (name_at names name)) was)
+
+  new_ends : (H : ChainHolders ModRow) → ((r : ModRow) (to : Option ℕ) → H.ends_of (mod_rows.lead r to) ≡ H.ends_of r) → H.ends_of new ≡ empty_chain → (row : ℕ → Option Link) → AreChains row (ends_in H up.mods) → AreChains row (ends_in H mods_in)
+  new_ends H blind empty row chains =
+      AreChains-owner row (ends_in H up.mods) (ends_in H mods_in) key (λ o d. seen (option_map H.ends_of) (λ r to. ap (λ z. Some z) (blind r to)) o d) chains (ap (option_map H.ends_of) absent)
+      (seen_new (option_map H.ends_of) (λ r to. ap (λ z. Some z) (blind r to)) ∙ ap (λ z. Some z) empty)
+
+  face_other : (o : ℕ) → o ≢ key → mod_faces mods_in o ≡ mod_faces up.mods o
+  face_other o d = seen (option_map mod_face) (λ r to. refl) o d
+
+  pub module_in_good : IsGood (length names) top (upper tops_in mods_in) nets
+  module_in_good = record {
+    root = grown;
+    rooted = becomes;
+    modules = appended_chains mod_rows up.mods mid (ends_in mod_holders up.tops) (ends_in mod_holders tops_in) top key root.modules g.modules ends_change no_link new_link same_links;
+    nets_of = new_ends net_holders (λ r to. refl) refl (links net_rows nets) g.nets_of;
+    ports_of = new_ends port_holders (λ r to. refl) refl (links port_rows nets) g.ports_of;
+    mods_numbered = subst (λ (z : TopRow). AreModsNumbered (length names) (z.next_module + 1) (mod_faces mods_in)) root_is
+        (mods_added (length names) g.root.next_module (mod_faces up.mods) (mod_faces mods_in) g.mods_numbered key (mod_face new) (seen_new (option_map mod_face) (λ r to. refl)) face_other (ap (λ (z : TopRow). z.next_module) (sym root_is)) few);
+    nets_numbered = nets_from (length names) (mod_faces up.mods) (mod_faces mods_in) (net_faces nets) (net_faces nets) g.nets_numbered
+        (λ k a at. record { was = a; at = at; owner = refl; id = refl; named = g.nets_numbered.named k a at; home = λ o h. g.nets_numbered.home k a o at h })
+        (nets_stay names top up nets g mods_in (λ o a live at. elim (cases_eq o key) [
+          | inl e ↦ absurd (gone o e live)
+          | inr d ↦ sym (face_other o d) ∙ at
+        ]));
+  }
+    where
+      gone : (o : ℕ) → o ≡ key → is_some (rows.get up.mods o) ≡ true → ⊥
+      gone o e live = never (sym (ap is_some (ap (rows.get up.mods) e ∙ absent)) ∙ live)
+        where
+          never : false ≡ true → ⊥
+          never e = cc
+
+-- a module without content goes
+module _ (names : List (List ℕ)) (top : ℕ) (up : Upper) (nets : Rows NetRow) (g : IsGood (length names) top up nets) (key : ℕ) (row : ModRow)
+    (at : rows.get up.mods key ≡ Some row) (mine : row.link.owner ≡ top) (no_nets : row.nets.first ≡ None) (no_ports : row.ports.first ≡ None) where
+  abbrev pub tops_out : Rows TopRow
+  tops_out = joined_ends mod_holders up.tops row.link
+
+  abbrev joined : Rows ModRow
+  joined = joined_rows mod_rows up.mods row.link
+
+  abbrev pub mods_out : Rows ModRow
+  mods_out = rows.remove joined key
+
+  abbrev shrunk : TopRow
+  shrunk = record g.root { modules = ends_without g.root.modules row.link }
+
+  was_out : rows.get up.tops row.link.owner ≡ Some g.root
+  was_out = ap (rows.get up.tops) mine ∙ g.rooted
+
+  becomes_out : rows.get tops_out row.link.owner ≡ Some shrunk
+  becomes_out = get_same up.tops row.link.owner (option_map (λ r. mod_holders.with_ends r (ends_without (mod_holders.ends_of r) row.link)) (rows.get up.tops row.link.owner)) ∙ ap (option_map (λ r. mod_holders.with_ends r (ends_without (mod_holders.ends_of r) row.link))) was_out
+
+  gone : rows.get mods_out key ≡ None
+  gone = get_same joined key None
+
+  left : {X : Type 0} (F : Option ModRow → X) → ((r : ModRow) (to : Option ℕ) → F (Some (mod_rows.lead r to)) ≡ F (Some r)) → ((r : ModRow) (from : Option ℕ) → F (Some (mod_rows.follow r from)) ≡ F (Some r)) → (q : ℕ) → q ≢ key → F (rows.get mods_out q) ≡ F (rows.get up.mods q)
+  left F blind deaf q d =
+      ap F (get_other joined key None q d)
+      ∙ seen-follow_at mod_rows F deaf (lead_at mod_rows up.mods row.link.prev row.link.next) row.link.next row.link.prev q
+      ∙ seen-lead_at mod_rows F blind up.mods row.link.prev row.link.next q
+
+  linked : links mod_rows up.mods key ≡ Some row.link
+  linked = ap (option_and_then mod_rows.link_of) at
+
+  no_more : links mod_rows mods_out key ≡ None
+  no_more = ap (option_and_then mod_rows.link_of) gone
+
+  as_joined : (q : ℕ) → q ≢ key → links mod_rows mods_out q ≡ links mod_rows joined q
+  as_joined q d = ap (option_and_then mod_rows.link_of) (get_other joined key None q d)
+
+  held : (place mod_rows up.mods mods_out (ends_in mod_holders up.tops) (ends_in mod_holders tops_out) key row.link g.modules linked no_more as_joined).ends ≡ g.root.modules
+  held =
+      let p = place mod_rows up.mods mods_out (ends_in mod_holders up.tops) (ends_in mod_holders tops_out) key row.link g.modules linked no_more as_joined in
+      same_some p.ends g.root.modules (sym p.held ∙ ap (option_map mod_holders.ends_of) was_out)
+
+  ends_out : (ends : Ends) → ends ≡ g.root.modules → EndsChange (ends_in mod_holders up.tops) (ends_in mod_holders tops_out) row.link.owner ends (ends_without ends row.link)
+  ends_out ends e = record {
+    was = ap (option_map mod_holders.ends_of) was_out ∙ ap (λ z. Some z) (sym e);
+    becomes = ap (option_map mod_holders.ends_of) becomes_out ∙ ap (λ z. Some (ends_without z row.link)) (sym e);
+    others = λ o d. ap (option_map mod_holders.ends_of) (get_other up.tops row.link.owner (option_map (λ r. mod_holders.with_ends r (ends_without (mod_holders.ends_of r) row.link)) (rows.get up.tops row.link.owner)) o d);
+  }
+
+  abbrev keep : PModule → Bool
+  keep other = not (other.id.0 == row.id.0)
+
+  mod_row : (k : ℕ) (o : Option ModRow) (y : PModule) → rows.get up.mods k ≡ o → k ≢ key → option_map (module_of_row names nets) o ≡ Some y → keep y ≡ true
+  mod_row k None y is d shows = absurd (none_some y shows)
+  mod_row k (Some r) y is d shows =
+      ap (λ (z : PModule). not (z.id.0 == row.id.0)) (sym (same_some (module_of_row names nets r) y shows))
+      ∙ ap not (unequal r.id.0 row.id.0 (λ e. d (g.mods_numbered.one k key (mod_face r) (mod_face row) (ap (option_map mod_face) is) (ap (option_map mod_face) at) e)))
+
+  listed_out : modules_from names mods_out nets shrunk.modules ≡ filter keep (modules_from names up.mods nets g.root.modules)
+  listed_out =
+      ap (λ (z : Ends). modules_from names mods_out nets (ends_without z row.link)) (sym held)
+      ∙ detached_listed mod_rows up.mods mods_out (ends_in mod_holders up.tops) (ends_in mod_holders tops_out) key row.link g.modules linked no_more as_joined (module_shown names up.mods nets) (module_shown names mods_out nets) keep (module_of_row names nets row)
+      (ap (option_map (module_of_row names nets)) at) (ap not (itself row.id.0))
+      (λ k l y d there of shows. mod_row k (rows.get up.mods k) y refl d shows)
+      (λ k d. left (option_map (module_of_row names nets)) (λ r to. refl) (λ r from. refl) k d)
+      ∙ ap (λ (z : Ends). filter keep (modules_from names up.mods nets z)) held
+
+  becomes_top : rows.get tops_out top ≡ Some shrunk
+  becomes_top = ap (rows.get tops_out) (sym mine) ∙ becomes_out
+
+  -- the table is without the module
+  pub module_out_table : table_of names top (upper tops_out mods_out) nets ≡ delete_module (table_of names top up nets) row.id
+  module_out_table =
+      ap (table_from names mods_out nets) becomes_top
+      ∙ (λ i. record { modules = listed_out i; next_module = g.root.next_module })
+      ∙ sym (ap (λ o. delete_module (table_from names up.mods nets o) row.id) g.rooted)
+
+  no_ends : (H : ChainHolders ModRow) → ((r : ModRow) (to : Option ℕ) → H.ends_of (mod_rows.lead r to) ≡ H.ends_of r) → ((r : ModRow) (from : Option ℕ) → H.ends_of (mod_rows.follow r from) ≡ H.ends_of r) → (H.ends_of row).first ≡ None → (links_of : ℕ → Option Link) → AreChains links_of (ends_in H up.mods) → AreChains links_of (ends_in H mods_out)
+  no_ends H blind deaf empty links_of chains =
+      AreChains-no_owner links_of (ends_in H up.mods) (ends_in H mods_out) key (λ o d. left (option_map H.ends_of) (λ r to. ap (λ z. Some z) (blind r to)) (λ r from. ap (λ z. Some z) (deaf r from)) o d) chains (H.ends_of row) (ap (option_map H.ends_of) at) empty (ap (option_map H.ends_of) gone)
+
+  old_face : (k : ℕ) (a : ModFace) → mod_faces mods_out k ≡ Some a → mod_faces up.mods k ≡ Some a
+  old_face k a there = elim (cases_eq k key) [
+    | inl e ↦ absurd (none_some a (sym (ap (option_map mod_face) (ap (rows.get mods_out) e ∙ gone)) ∙ there))
+    | inr d ↦ sym (left (option_map mod_face) (λ r to. refl) (λ r from. refl) k d) ∙ there
+  ]
+
+  pub module_out_good : IsGood (length names) top (upper tops_out mods_out) nets
+  module_out_good =
+      let p = place mod_rows up.mods mods_out (ends_in mod_holders up.tops) (ends_in mod_holders tops_out) key row.link g.modules linked no_more as_joined in
+      record {
+        root = shrunk;
+        rooted = becomes_top;
+        modules = detached_chains mod_rows up.mods mods_out (ends_in mod_holders up.tops) (ends_in mod_holders tops_out) key row.link g.modules linked no_more as_joined (ends_out p.ends held);
+        nets_of = no_ends net_holders (λ r to. refl) (λ r from. refl) no_nets (links net_rows nets) g.nets_of;
+        ports_of = no_ends port_holders (λ r to. refl) (λ r from. refl) no_ports (links port_rows nets) g.ports_of;
+        mods_numbered = mods_from (length names) g.root.next_module (mod_faces up.mods) (mod_faces mods_out) g.mods_numbered
+            (λ k a there. record { was = a; at = old_face k a there; id = refl; named = g.mods_numbered.named k a (old_face k a there) });
+        nets_numbered = nets_from (length names) (mod_faces up.mods) (mod_faces mods_out) (net_faces nets) (net_faces nets) g.nets_numbered
+            (λ k a there. record { was = a; at = there; owner = refl; id = refl; named = g.nets_numbered.named k a there; home = λ o h. g.nets_numbered.home k a o there h })
+            (nets_stay names top up nets g mods_out (λ o a live there. old_face o a there));
+      }

@@ -1,0 +1,119 @@
+-- The tables at the start.
+use Rattle.std.proofs.Common.{◌≡◌, ℕ, ◌<◌, min, List, [], ◌∷◌, length, Option, Some, None, option_map, option_and_then, false, refl, sym, ap, subst, ◌∙◌, inl, inr, arith}
+use Rattle.std.proofs.lemmas.Bool.{cases_eq}
+use Rattle.std.specs.Ordering.{nat_cmp}
+use Rattle.std.specs.FinMap as rows
+use Rattle.std.specs.FinMap.{get-empty}
+use Rattle.emh_base.specs.declared.plain.Plain.{Plain}
+use Rattle.flatten_rules.specs.Lookup.{no_modules}
+use Rattle.timeline.specs.Timeline.{Timeline, new_timeline}
+use Rattle.timeline.specs.Joined.{join, IsJoint}
+use Rattle.undo_slots.specs.Slots.{Rows}
+use Rattle.row_chains.specs.declared.link.Link.{Link}
+use Rattle.row_chains.specs.declared.link.Ends.{Ends}
+use Rattle.row_chains.specs.Chains.{AreChains}
+use Rattle.row_chains.specs.Rows.{links, ends_in}
+use Rattle.row_chains.proofs.KeyLemmas.{same_some, none_some}
+use Rattle.row_chains.proofs.TableLemmas.{get_same, get_other}
+use Rattle.mod_core.specs.declared.rows.TopRow.{TopRow}
+use Rattle.mod_core.specs.declared.rows.ModRow.{ModRow}
+use Rattle.mod_core.specs.declared.rows.NetRow.{NetRow}
+use Rattle.mod_core.specs.inside.Linked.{mod_rows, mod_holders, net_rows, net_holders, port_rows, port_holders, module_shown, table_from, table_of, Upper, upper}
+use Rattle.mod_core.specs.inside.Good.{mod_face, mod_faces, net_face, net_faces, IsGood}
+use Rattle.mod_core.specs.inside.Changes.{empty_chain}
+use Rattle.mod_core.specs.inside.Kept.{Together, IsKept}
+use Rattle.mod_core.proofs.ModuleLemmas.{listed_none}
+
+-- chains without rows are empty
+no_rows : (row : ℕ → Option Link) (ends_of : ℕ → Option Ends) → ((k : ℕ) → row k ≡ None) → ((o : ℕ) (ends : Ends) → ends_of o ≡ Some ends → empty_chain ≡ ends) → AreChains row ends_of
+no_rows row ends_of none empty = record {
+  chain = λ o ends at. (
+    [],
+    record {
+      begins = ap (λ (z : Ends). z.first) (sym (empty o ends at));
+      stops = ap (λ (z : Ends). z.last) (sym (empty o ends at));
+      linked = tt;
+      apart = tt;
+      whole = λ k link there of. absurd (none_some link (sym (none k) ∙ there));
+    },
+  );
+  owned = λ k link there. absurd (none_some link (sym (none k) ∙ there));
+}
+
+abbrev pub first_row : TopRow
+first_row = record { modules = empty_chain; next_module = 0 }
+
+abbrev pub no_mods : Rows ModRow
+no_mods = rows.empty
+
+abbrev pub no_nets : Rows NetRow
+no_nets = rows.empty
+
+no_mod : (k : ℕ) → rows.get no_mods k ≡ None
+no_mod k = get-empty nat_cmp k
+
+no_net : (k : ℕ) → rows.get no_nets k ≡ None
+no_net k = get-empty nat_cmp k
+
+abbrev pub first_tops : ℕ → Rows TopRow
+first_tops top = rows.insert rows.empty top first_row
+
+module _ (names : List (List ℕ)) (top : ℕ) where
+  rooted : rows.get (first_tops top) top ≡ Some first_row
+  rooted = get_same rows.empty top (Some first_row)
+
+  one_top : (o : ℕ) (ends : Ends) → ends_in mod_holders (first_tops top) o ≡ Some ends → empty_chain ≡ ends
+  one_top o ends at = elim (cases_eq o top) [
+    | inl e ↦ same_some empty_chain ends (sym (ap (option_map mod_holders.ends_of) (ap (rows.get (first_tops top)) e ∙ rooted)) ∙ at)
+    | inr d ↦ absurd (none_some ends (sym (ap (option_map mod_holders.ends_of) (get_other rows.empty top (Some first_row) o d ∙ get-empty nat_cmp o)) ∙ at))
+  ]
+
+  pub first_good : IsGood (length names) top (upper (first_tops top) no_mods) no_nets
+  first_good = record {
+    root = first_row;
+    rooted = rooted;
+    modules = no_rows (links mod_rows no_mods) (ends_in mod_holders (first_tops top)) (λ k. ap (option_and_then mod_rows.link_of) (no_mod k)) one_top;
+    nets_of = no_rows (links net_rows no_nets) (ends_in net_holders no_mods) (λ k. ap (option_and_then net_rows.link_of) (no_net k)) (λ o ends at. absurd (none_some ends (sym (ap (option_map net_holders.ends_of) (no_mod o)) ∙ at)));
+    ports_of = no_rows (links port_rows no_nets) (ends_in port_holders no_mods) (λ k. ap (option_and_then port_rows.link_of) (no_net k)) (λ o ends at. absurd (none_some ends (sym (ap (option_map port_holders.ends_of) (no_mod o)) ∙ at)));
+    mods_numbered = record {
+      one = λ j k a b ja kb e. absurd (none_some a (sym (ap (option_map mod_face) (no_mod j)) ∙ ja));
+      below = λ k a ka. absurd (none_some a (sym (ap (option_map mod_face) (no_mod k)) ∙ ka));
+      named = λ k a ka. absurd (none_some a (sym (ap (option_map mod_face) (no_mod k)) ∙ ka));
+    };
+    nets_numbered = record {
+      one = λ j k a b ja kb o e. absurd (none_some a (sym (ap (option_map net_face) (no_net j)) ∙ ja));
+      below = λ k a m ka om. absurd (none_some a (sym (ap (option_map net_face) (no_net k)) ∙ ka));
+      named = λ k a ka. absurd (none_some a (sym (ap (option_map net_face) (no_net k)) ∙ ka));
+      home = λ k a o ka h. absurd (none_some a (sym (ap (option_map net_face) (no_net k)) ∙ ka));
+    };
+  }
+
+  first_table : table_of names top (upper (first_tops top) no_mods) no_nets ≡ no_modules
+  first_table =
+      ap (table_from names no_mods no_nets) rooted
+      ∙ (λ i. record { modules = listed_none mod_rows (module_shown names no_mods no_nets) no_mods i; next_module = 0 })
+
+  module _ (tops : Timeline (Rows TopRow)) (now_is : tops.now ≡ (first_tops top)) (past_is : tops.past ≡ []) (future_is : tops.future ≡ []) (closed : tops.is_open ≡ false) (base_is : tops.base ≡ (first_tops top)) (unwritten : tops.writes ≡ 0) where
+    abbrev start : Timeline (Rows TopRow)
+    start = record { now = (first_tops top); past = []; future = []; is_open = false; base = (first_tops top); writes = 0; spare_rows = tops.spare_rows; spare_writes = tops.spare_writes }
+
+    started : tops ≡ start
+    started = λ i. record { now = now_is i; past = past_is i; future = future_is i; is_open = closed i; base = base_is i; writes = unwritten i; spare_rows = tops.spare_rows; spare_writes = tops.spare_writes }
+
+    pub first_kept : (mods : Timeline (Rows ModRow)) (nets : Timeline (Rows NetRow)) → mods ≡ new_timeline no_mods → nets ≡ new_timeline no_nets → IsKept names top tops mods nets
+    first_kept mods nets e f =
+        let F : Timeline (Rows TopRow) → Type 0 = λ s. IsKept names top s mods nets in
+        let G : Timeline (Rows ModRow) → Type 0 = λ s. IsKept names top start s nets in
+        let H : Timeline (Rows NetRow) → Type 0 = λ s. IsKept names top start (new_timeline no_mods) s in
+        subst F (sym started) (subst G (sym e) (subst H (sym f) (record {
+          heads = record { opens = refl; now = tt; base = tt; past = tt; future = tt };
+          all = record { opens = refl; now = first_good; base = first_good; past = tt; future = tt };
+        })))
+
+    pub first_whole : (mods : Timeline (Rows ModRow)) (nets : Timeline (Rows NetRow)) → mods ≡ new_timeline no_mods → nets ≡ new_timeline no_nets → join (table_of names top) (join upper tops mods) nets ≡ new_timeline no_modules
+    first_whole mods nets e f =
+        (λ i. join (table_of names top) (join upper (started i) (e i)) (f i))
+        ∙ (λ i. record (new_timeline no_modules) { now = first_table i; base = first_table i; spare_rows = least tops.spare_rows i; spare_writes = least tops.spare_writes i })
+      where
+        least : (n : ℕ) → min (min n 0) 0 ≡ 0
+        least n = omega arith

@@ -1,0 +1,46 @@
+-- A module that is changed twice, and instances where there are none.
+use Rattle.std.proofs.Common.{◌≡◌, ℕ, ◌==◌, Bool, true, false, cond, List, [], ◌∷◌, map, Option, Some, None, option_map, refl, sym, ap, ◌∙◌}
+use Rattle.std.specs.List.{filter_map, cons_option}
+use Rattle.std.specs.FinMap as rows
+use Rattle.emh_base.specs.declared.ids.ModId.{ModId}
+use Rattle.emh_base.specs.declared.plain.PInst.{PInst}
+use Rattle.emh_base.specs.declared.plain.PModule.{PModule}
+use Rattle.emh_base.specs.declared.plain.Plain.{Plain}
+use Rattle.flatten_rules.specs.Changes.{with_module, with_insts, at_instances}
+use Rattle.undo_slots.specs.Slots.{Rows}
+use Rattle.row_chains.specs.Rows.{keys}
+use Rattle.mod_core.specs.declared.rows.TopRow.{TopRow}
+use Rattle.mod_core.specs.declared.rows.ModRow.{ModRow}
+use Rattle.mod_core.specs.declared.rows.NetRow.{NetRow}
+use Rattle.mod_core.specs.inside.Linked.{mod_rows, module_of_row, module_shown, modules_from, table_from, table_of, Upper}
+
+pub twice : (f g : PModule → PModule) → ((m : PModule) → (f m).id ≡ m.id) → (M : Plain) (id : ModId) → with_module (with_module M id f) id g ≡ with_module M id (λ m. g (f m))
+twice f g same M id = λ i. record M { modules = all M.modules i }
+  where
+    by : (m : PModule) (b : Bool) → (m.id.0 == id.0) ≡ b → cond ((cond b (f m) m).id.0 == id.0) (g (cond b (f m) m)) (cond b (f m) m) ≡ cond b (g (f m)) m
+    by m true e = ap (λ (x : ModId). cond (x.0 == id.0) (g (f m)) (f m)) (same m) ∙ ap (λ b. cond b (g (f m)) (f m)) e
+    by m false e = ap (λ b. cond b (g m) m) e
+
+    all : (ms : List PModule) → map (λ (m : PModule). cond (m.id.0 == id.0) (g m) m) (map (λ (m : PModule). cond (m.id.0 == id.0) (f m) m) ms) ≡ map (λ (m : PModule). cond (m.id.0 == id.0) (g (f m)) m) ms
+    all [] = refl
+    all (m ∷ ms) = λ i. by m (m.id.0 == id.0) refl i ∷ all ms i
+
+module _ (names : List (List ℕ)) (up : Upper) (nets : Rows NetRow) (id : ModId) (change : PInst → PInst) where
+  abbrev each : PModule → PModule
+  each = with_insts (λ inst. cond (inst.master.0 == id.0) (change inst) inst)
+
+  shown_each : (ks : List ℕ) → map each (filter_map (module_shown names up.mods nets) ks) ≡ filter_map (module_shown names up.mods nets) ks
+  shown_each [] = refl
+  shown_each (k ∷ ks) = one (rows.get up.mods k) (shown_each ks)
+    where
+      one : (o : Option ModRow) → map each (filter_map (module_shown names up.mods nets) ks) ≡ filter_map (module_shown names up.mods nets) ks → map each (cons_option (option_map (module_of_row names nets) o) (filter_map (module_shown names up.mods nets) ks)) ≡ cons_option (option_map (module_of_row names nets) o) (filter_map (module_shown names up.mods nets) ks)
+      one None e = e
+      one (Some r) e = ap (λ ms. module_of_row names nets r ∷ ms) e
+
+  -- no module has instances
+  pub no_instances : (top : ℕ) → at_instances (table_of names top up nets) id change ≡ table_of names top up nets
+  no_instances top = one (rows.get up.tops top)
+    where
+      one : (o : Option TopRow) → at_instances (table_from names up.mods nets o) id change ≡ table_from names up.mods nets o
+      one None = refl
+      one (Some root) = λ i. record (table_from names up.mods nets (Some root)) { modules = shown_each (keys mod_rows up.mods root.modules.first) i }

@@ -1,0 +1,59 @@
+use Rattle.std.proofs.Common.{◌≡◌, ◌<◌, ◌∙◌, ℕ, List, Option, Some, None, ap, sym, subst, length, is_some, option_and_then, refl}
+use Rattle.std.specs.FinMap as map
+use Rattle.emh_base.specs.declared.plain.PModule.{PModule}
+use Rattle.flatten_rules.specs.Lookup.{module_of, net_of}
+use Rattle.flatten_rules.specs.Changes.{net_in, port_in}
+use Rattle.row_chains.proofs.KeyLemmas.{same_some}
+use Rattle.row_chains.proofs.PaysLemmas.{Pays-none}
+use Rattle.mod_core.specs.declared.rows.ModRow.{ModRow}
+use Rattle.mod_core.specs.declared.rows.NetRow.{NetRow}
+use Rattle.mod_core.specs.Mods.{KeptTable}
+use Rattle.mod_core.specs.inside.Linked.{module_of_row, upper}
+use Rattle.mod_core.specs.inside.Changes.{NetIn}
+use Rattle.mod_core.proofs.KeptLemmas.{kept_paid}
+use Rattle.mod_core.proofs.LookupLemmas.{live_key, found_module, live_net, found_net}
+use Rattle.mod_core.proofs.EffectLemmas.{module_made, net_made, net_gone, some_then}
+use Rattle.mod_core.proofs.mods.Mods.delete_net.Goals as goal
+
+pub unwrap-owner-requires : goal.unwrap-owner-requires
+unwrap-owner-requires c =
+    let i = c.self.inside in
+    ap is_some c.find_under.ensures
+    ∙ live_key i.names i.top (upper i.tops.now i.mods.now) i.nets.now c.self.invariant.all.now c.args.«module»
+    (ap (λ (v : KeptTable). is_some (module_of v.table.now c.args.«module»)) c.self.view_is
+    ∙ some_then (λ (holder : PModule). net_of holder c.args.net) (module_of c.args.self.now.table.now c.args.«module») c.requires.live)
+
+pub unwrap-key-requires : goal.unwrap-key-requires
+unwrap-key-requires c =
+    let i = c.self.inside in
+    let named = sym c.find_under.ensures ∙ c.unwrap-owner.ensures in
+    let m = found_module i.names i.top (upper i.tops.now i.mods.now) i.nets.now c.self.invariant.all.now c.args.«module» c.unwrap-owner.result named in
+    ap is_some c.find_under-2.ensures
+    ∙ live_net i.names i.top (upper i.tops.now i.mods.now) i.nets.now c.self.invariant.all.now c.unwrap-owner.result m.row m.at c.args.net
+    (ap is_some (sym (ap (option_and_then (λ (holder : PModule). net_of holder c.args.net)) m.shown))
+    ∙ ap (λ (v : KeptTable). is_some (net_in v.table.now c.args.«module» c.args.net)) c.self.view_is ∙ c.requires.live)
+
+pub net_out-requires-clause-live : goal.net_out-requires-clause-live
+net_out-requires-clause-live c =
+    let i = c.self.inside in
+    let named = sym c.find_under.ensures ∙ c.unwrap-owner.ensures in
+    let m = found_module i.names i.top (upper i.tops.now i.mods.now) i.nets.now c.self.invariant.all.now c.args.«module» c.unwrap-owner.result named in
+    ap is_some (found_net i.names i.top (upper i.tops.now i.mods.now) i.nets.now c.self.invariant.all.now c.unwrap-owner.result m.row m.at c.args.net c.unwrap-key.result (sym c.find_under-2.ensures ∙ c.unwrap-key.ensures)).at
+
+pub invariant_of-self : goal.invariant_of-self
+invariant_of-self c =
+    let i = c.self.inside in
+    let g = c.self.invariant.all.now in
+    let named = sym c.find_under.ensures ∙ c.unwrap-owner.ensures in
+    let none = ap (λ (v : KeptTable). port_in v.table.now c.args.«module» c.args.net) c.self.view_is ∙ c.requires.alone in
+    let gone = net_gone i.names i.top i.tops.now i.mods.now c.net_out.new.mods.now i.nets.now g c.net_out.new.nets.now c.args.«module» c.unwrap-owner.result named c.args.net c.unwrap-key.result (sym c.find_under-2.ensures ∙ c.unwrap-key.ensures) none c.net_out.ensures.effect in
+    kept_paid i.names i.top i.tops i.mods i.nets c.self.invariant i.tops c.net_out.new.mods c.net_out.new.nets 0 1 3 (Pays-none i.tops) c.net_out.ensures.mods_pay c.net_out.ensures.nets_pay gone.0
+
+pub returns-clause-table : goal.returns-clause-table
+returns-clause-table c =
+    let i = c.self.inside in
+    let g = c.self.invariant.all.now in
+    let named = sym c.find_under.ensures ∙ c.unwrap-owner.ensures in
+    let none = ap (λ (v : KeptTable). port_in v.table.now c.args.«module» c.args.net) c.self.view_is ∙ c.requires.alone in
+    rw (← c.self.view_is)
+    (net_gone i.names i.top i.tops.now i.mods.now c.net_out.new.mods.now i.nets.now g c.net_out.new.nets.now c.args.«module» c.unwrap-owner.result named c.args.net c.unwrap-key.result (sym c.find_under-2.ensures ∙ c.unwrap-key.ensures) none c.net_out.ensures.effect).1

@@ -1,0 +1,11 @@
+use Rattle.std.proofs.Common.{ap, sym, length, ◌∙◌}
+use Rattle.mod_core.specs.Mods.{KeptTable}
+use Rattle.mod_core.proofs.KeptLemmas.{lengths}
+use Rattle.mod_core.proofs.mods.Mods.future_len.Goals as goal
+
+pub returns : goal.returns
+returns c =
+    let i = c.self.inside in
+    c.future_len.ensures
+    ∙ sym (lengths i.names i.top i.tops i.mods i.nets c.self.invariant).nets_future
+    ∙ ap (λ (v : KeptTable). length v.table.future) c.self.view_is

@@ -1,0 +1,16 @@
+use Rattle.std.proofs.Common.{◌≡◌, ap, sym, ◌∙◌, Some, None, Option, option_map, option_and_then, is_some, refl}
+use Rattle.std.specs.FinMap as map
+use Rattle.timeline.specs.Timeline.{Timeline}
+use Rattle.undo_slots.specs.Slots.{Rows}
+use Rattle.row_chains.specs.Rows.{ends_in}
+use Rattle.row_chains.proofs.LiveLemmas.{last_live, live_insert}
+use Rattle.mod_core.specs.declared.rows.NetRow.{NetRow}
+use Rattle.mod_core.specs.inside.Linked.{net_rows, net_holders}
+use Rattle.mod_core.specs.inside.Changes.{new_net}
+use Rattle.mod_core.proofs.nets.net_in.Goals as goal
+
+pub append-requires-clause-last : goal.append-requires-clause-last
+append-requires-clause-last c = λ k e.
+    let held = ap (option_map net_holders.ends_of) (sym c.get.ensures ∙ c.unwrap-row.ensures) in
+    ap (λ (s : Timeline (Rows NetRow)). is_some (map.get s.now k)) c.add-key.ensures.added
+    ∙ live_insert c.args.nets.now.now c.add-key.result (new_net c.args.owner c.unwrap-row.result c.args.id.0 c.args.name c.args.range) k (last_live net_rows c.args.nets.now.now (ends_in net_holders c.args.mods.now.now) c.requires.chains c.args.owner c.unwrap-row.result.nets held k e)

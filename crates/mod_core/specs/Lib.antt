@@ -1,0 +1,2 @@
+pub mod Mods
+pub mod inside

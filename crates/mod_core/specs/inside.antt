@@ -1,0 +1,4 @@
+pub mod Linked
+pub mod Good
+pub mod Changes
+pub mod Kept

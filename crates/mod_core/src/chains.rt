@@ -1,0 +1,170 @@
+ghost use Rattle.std.specs.Prelude.{◌≡◌};
+ghost use Rattle.mod_core.specs.inside.Linked.{mod_rows, mod_holders, net_rows, net_holders, port_rows, port_holders};
+
+use crate::rows::{ModRow, NetRow, PortRow, TopRow};
+use row_chains::{Chain, Ends, Link, Numbered};
+
+/// The modules of the table, in rising order of id.
+pub(crate) struct Modules;
+
+/// The nets of a module, in rising order of id.
+pub(crate) struct Nets;
+
+/// The ports of a module, in port order.
+pub(crate) struct Ports;
+
+fn behind(link: Link, from: Option<usize>) -> Link
+    ensures { result ≡ record link { prev = from } }
+{
+    Link { prev: from, ..link }
+}
+
+fn before(link: Link, to: Option<usize>) -> Link
+    ensures { result ≡ record link { next = to } }
+{
+    Link { next: to, ..link }
+}
+
+impl Chain<ModRow, TopRow> for Modules {
+    ghost rows = { mod_rows };
+
+    ghost holders = { mod_holders };
+
+    fn lead(&self, row: ModRow, to: Option<usize>) -> ModRow {
+        ModRow {
+            link: before(row.link, to),
+            ..row
+        }
+    }
+
+    fn follow(&self, row: ModRow, from: Option<usize>) -> ModRow {
+        ModRow {
+            link: behind(row.link, from),
+            ..row
+        }
+    }
+
+    fn next(&self, row: ModRow) -> Option<usize> {
+        row.link.next
+    }
+
+    fn ends(&self, holder: TopRow) -> Ends {
+        holder.modules
+    }
+
+    fn with_ends(&self, holder: TopRow, ends: Ends) -> TopRow {
+        TopRow {
+            modules: ends,
+            ..holder
+        }
+    }
+}
+
+impl Numbered<ModRow> for Modules {
+    ghost number_of = { λ row. row.id.0 };
+
+    fn number(&self, row: ModRow) -> u32 {
+        row.id.0
+    }
+}
+
+impl Chain<NetRow, ModRow> for Nets {
+    ghost rows = { net_rows };
+
+    ghost holders = { net_holders };
+
+    fn lead(&self, row: NetRow, to: Option<usize>) -> NetRow {
+        NetRow {
+            link: before(row.link, to),
+            ..row
+        }
+    }
+
+    fn follow(&self, row: NetRow, from: Option<usize>) -> NetRow {
+        NetRow {
+            link: behind(row.link, from),
+            ..row
+        }
+    }
+
+    fn next(&self, row: NetRow) -> Option<usize> {
+        row.link.next
+    }
+
+    fn ends(&self, holder: ModRow) -> Ends {
+        holder.nets
+    }
+
+    fn with_ends(&self, holder: ModRow, ends: Ends) -> ModRow {
+        ModRow {
+            nets: ends,
+            ..holder
+        }
+    }
+}
+
+impl Numbered<NetRow> for Nets {
+    ghost number_of = { λ row. row.id.0 };
+
+    fn number(&self, row: NetRow) -> u32 {
+        row.id.0
+    }
+}
+
+impl Chain<NetRow, ModRow> for Ports {
+    ghost rows = { port_rows };
+
+    ghost holders = { port_holders };
+
+    fn lead(&self, row: NetRow, to: Option<usize>) -> NetRow {
+        NetRow {
+            port: match row.port {
+                Some(port) => Some(PortRow {
+                    link: before(port.link, to),
+                    ..port
+                }),
+                None => None,
+            },
+            ..row
+        }
+    }
+
+    fn follow(&self, row: NetRow, from: Option<usize>) -> NetRow {
+        NetRow {
+            port: match row.port {
+                Some(port) => Some(PortRow {
+                    link: behind(port.link, from),
+                    ..port
+                }),
+                None => None,
+            },
+            ..row
+        }
+    }
+
+    fn next(&self, row: NetRow) -> Option<usize> {
+        match row.port {
+            Some(port) => port.link.next,
+            None => None,
+        }
+    }
+
+    fn ends(&self, holder: ModRow) -> Ends {
+        holder.ports
+    }
+
+    fn with_ends(&self, holder: ModRow, ends: Ends) -> ModRow {
+        ModRow {
+            ports: ends,
+            ..holder
+        }
+    }
+}
+
+impl Numbered<NetRow> for Ports {
+    ghost number_of = { λ row. row.id.0 };
+
+    fn number(&self, row: NetRow) -> u32 {
+        row.id.0
+    }
+}

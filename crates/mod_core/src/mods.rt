@@ -1,0 +1,292 @@
+ghost use Rattle.std.specs.Prelude.{◌≡◌, ℕ, ◌+◌, ◌-◌, ◌<◌, ◌≤◌, [], ◌∷◌, ◌++◌, length, IsSome, OnOk, IfOk, IsSomeAnd, true, false, drop, Some, None};
+ghost use Rattle.timeline.specs.Timeline.{Moves, new_timeline};
+ghost use Rattle.row_chains.specs.Pays.{Pays};
+ghost use Rattle.emh_base.specs.declared.plain.PModule.{PModule};
+ghost use Rattle.flatten_rules.specs.Lookup.{module_of, no_modules};
+ghost use Rattle.flatten_rules.specs.Changes.{net_in, port_in};
+ghost use Rattle.flatten_rules.specs.ModuleChanges.{create_module};
+ghost use Rattle.flatten_rules.specs.NetChanges.{create_net, delete_net, create_port};
+ghost use Rattle.mod_core.specs.Mods.{name_at};
+
+use crate::chains::{Modules, Nets};
+use crate::modules::module_in;
+use crate::nets::{net_in, net_out};
+use crate::ports::port_in;
+use crate::rows::{ModRow, NetRow, TopRow};
+use emh_base::{Dir, ModId, NetId, NoMemory, Pool, Range};
+use row_chains::{Ends, find_under};
+use std::alloc::Global;
+use std::marker::Model;
+use undo_slots::Table;
+
+/// The module table as linked rows, and the names that they number. Changes are recorded, so that whole records are
+/// undone and redone. A contract sees the names and the table with its past and future.
+#[derive(Drop)]
+pub struct Mods {
+    names: Pool,
+    top: usize,
+    tops: Table<TopRow>,
+    mods: Table<ModRow>,
+    nets: Table<NetRow>,
+}
+
+impl Model for Mods {
+    ghost use Rattle.mod_core.specs.Mods.{KeptTable};
+    ghost use Rattle.mod_core.specs.inside.Kept.{kept_of, IsKept};
+
+    ghost Value = { KeptTable };
+
+    ghost view = { λ m. kept_of m.names m.top m.tops m.mods m.nets };
+
+    ghost invariant = { λ m. IsKept m.names m.top m.tops m.mods m.nets };
+}
+
+impl Mods {
+    /// A table without modules, and no names.
+    pub fn new(alloc: Global) -> Result<Mods, NoMemory>
+        ensures names { IfOk result (λ mods. mods.names ≡ []) }
+        ensures table { IfOk result (λ mods. mods.table ≡ new_timeline no_modules) }
+    {
+        let mut tops = Table::new(alloc);
+        if tops.reserve(1, 2).is_err() {
+            return Err(NoMemory);
+        }
+        tops.begin();
+        let top = tops.add(TopRow {
+            modules: Ends {
+                first: None,
+                last: None,
+            },
+            next_module: 0,
+        });
+        tops.commit();
+        tops.forget();
+        Ok(Mods {
+            names: Pool::new(alloc),
+            top,
+            tops,
+            mods: Table::new(alloc),
+            nets: Table::new(alloc),
+        })
+    }
+
+    /// Makes room for so many new rows and so many writes in each of the tables, counting `begin` as a write.
+    pub fn reserve(&mut self, rows: usize, writes: usize) -> Result<(), NoMemory>
+        ensures ok { OnOk result ((rows ≤ self.new.table.spare_rows)
+            × (writes ≤ self.new.table.spare_writes)) }
+        ensures names { self.new.names ≡ self.old.names }
+        ensures rest { self.new.table ≡ record self.old.table {
+          spare_rows = self.new.table.spare_rows;
+          spare_writes = self.new.table.spare_writes;
+        } }
+        ensures spare { (self.old.table.spare_rows ≤ self.new.table.spare_rows)
+            × (self.old.table.spare_writes ≤ self.new.table.spare_writes) }
+    {
+        let tops = self.tops.reserve(rows, writes).is_ok();
+        let mods = self.mods.reserve(rows, writes).is_ok();
+        let nets = self.nets.reserve(rows, writes).is_ok();
+        if tops && mods && nets {
+            Ok(())
+        } else {
+            Err(NoMemory)
+        }
+    }
+
+    /// Opens a record. Condition: none is open, and there is a spare write.
+    pub fn begin(&mut self)
+        requires closed { self.old.table.is_open ≡ false }
+        requires spare { 1 ≤ self.old.table.spare_writes }
+        ensures names { self.new.names ≡ self.old.names }
+        ensures begun { self.new.table ≡ record self.old.table {
+          is_open = true;
+          base = self.old.table.now;
+          writes = 0;
+          spare_writes = self.old.table.spare_writes - 1;
+        } }
+    {
+        self.tops.begin();
+        self.mods.begin();
+        self.nets.begin();
+    }
+
+    /// Closes the record, and remembers the table where it began. What was taken back is forgotten. Condition: a record
+    /// is open.
+    pub fn commit(&mut self)
+        requires { self.old.table.is_open ≡ true }
+        ensures names { self.new.names ≡ self.old.names }
+        ensures committed { self.new.table ≡ record self.old.table {
+          past = self.old.table.past ++
+              record { value = self.old.table.base; writes = self.old.table.writes } ∷ [];
+          future = [];
+          is_open = false;
+          base = self.old.table.now;
+          writes = 0;
+          spare_rows = self.new.table.spare_rows;
+        } }
+        ensures spare { self.old.table.spare_rows ≤ self.new.table.spare_rows }
+    {
+        self.tops.commit();
+        self.mods.commit();
+        self.nets.commit();
+    }
+
+    /// Goes back to where the record began, and closes it. Condition: a record is open.
+    pub fn abandon(&mut self)
+        requires { self.old.table.is_open ≡ true }
+        ensures names { self.new.names ≡ self.old.names }
+        ensures abandoned { self.new.table ≡ record self.old.table {
+          now = self.old.table.base;
+          is_open = false;
+          writes = 0;
+          spare_rows = self.new.table.spare_rows;
+        } }
+        ensures spare { self.old.table.spare_rows ≤ self.new.table.spare_rows }
+    {
+        self.tops.abandon();
+        self.mods.abandon();
+        self.nets.abandon();
+    }
+
+    /// Goes back to the last remembered table. Condition: no record is open, and there is such a table.
+    pub fn undo(&mut self)
+        requires closed { self.old.table.is_open ≡ false }
+        requires some { 0 < length self.old.table.past }
+        ensures names { self.new.names ≡ self.old.names }
+        ensures moves { Moves self.old.table.past self.old.table.future self.old.table.now
+            self.new.table.past self.new.table.future self.new.table.now }
+        ensures rest { self.new.table ≡ record self.old.table {
+          now = self.new.table.now;
+          past = self.new.table.past;
+          future = self.new.table.future;
+          base = self.new.table.now;
+        } }
+    {
+        self.tops.undo();
+        self.mods.undo();
+        self.nets.undo();
+    }
+
+    /// Goes on to the table that was left last by an undo. Condition: no record is open, and there is such a table.
+    pub fn redo(&mut self)
+        requires closed { self.old.table.is_open ≡ false }
+        requires some { 0 < length self.old.table.future }
+        ensures names { self.new.names ≡ self.old.names }
+        ensures moves { Moves self.old.table.future self.old.table.past self.old.table.now
+            self.new.table.future self.new.table.past self.new.table.now }
+        ensures rest { self.new.table ≡ record self.old.table {
+          now = self.new.table.now;
+          past = self.new.table.past;
+          future = self.new.table.future;
+          base = self.new.table.now;
+        } }
+    {
+        self.tops.redo();
+        self.mods.redo();
+        self.nets.redo();
+    }
+
+    /// Forgets the oldest remembered table. Condition: no record is open, and there is such a table.
+    pub fn forget(&mut self)
+        requires closed { self.old.table.is_open ≡ false }
+        requires some { 0 < length self.old.table.past }
+        ensures names { self.new.names ≡ self.old.names }
+        ensures forgotten { self.new.table ≡ record self.old.table {
+          past = drop 1 self.old.table.past;
+          spare_rows = self.new.table.spare_rows;
+        } }
+        ensures spare { self.old.table.spare_rows ≤ self.new.table.spare_rows }
+    {
+        self.tops.forget();
+        self.mods.forget();
+        self.nets.forget();
+    }
+
+    /// The number of remembered tables.
+    pub fn past_len(&self) -> usize
+        ensures { result ≡ length self.now.table.past }
+    {
+        self.nets.past_len()
+    }
+
+    /// The number of tables to redo.
+    pub fn future_len(&self) -> usize
+        ensures { result ≡ length self.now.table.future }
+    {
+        self.nets.future_len()
+    }
+
+    /// Puts a new module without content last. Its id is the counter's value. At most three writes. Condition: a record
+    /// is open, there are spare rows and writes, the name is the pool's, and the counter has not come to its end.
+    pub fn create_module(&mut self, name: usize)
+        requires open { self.old.table.is_open ≡ true }
+        requires room { 1 ≤ self.old.table.spare_rows }
+        requires spare { 2 ≤ self.old.table.spare_writes }
+        requires name { name < length self.old.names }
+        requires few { self.old.table.now.next_module < 4294967295 }
+        ensures names { self.new.names ≡ self.old.names }
+        ensures table { self.new.table.now
+            ≡ create_module self.old.table.now (name_at self.old.names name) }
+        ensures pays { Pays 3 self.old.table self.new.table }
+    {
+        module_in(&mut self.tops, &mut self.mods, self.top, name);
+    }
+
+    /// Puts a new net last in a module. Its id is the module's counter. At most three writes. Condition: a record is
+    /// open, there are spare rows and writes, the name is the pool's, the module is there, and its counter has not come
+    /// to its end.
+    pub fn create_net(&mut self, module: ModId, name: usize, range: Option<Range>)
+        requires open { self.old.table.is_open ≡ true }
+        requires room { 1 ≤ self.old.table.spare_rows }
+        requires spare { 2 ≤ self.old.table.spare_writes }
+        requires name { name < length self.old.names }
+        requires live { IsSome (module_of self.old.table.now «module») }
+        requires few { (m : PModule) → module_of self.old.table.now «module» ≡ Some m
+            → m.next_net < 4294967295 }
+        ensures names { self.new.names ≡ self.old.names }
+        ensures table { self.new.table.now
+            ≡ create_net self.old.table.now «module» (name_at self.old.names name) range }
+        ensures pays { Pays 3 self.old.table self.new.table }
+    {
+        let owner = find_under(&Modules, &self.mods, &self.tops, self.top, module.0).unwrap();
+        let row = self.mods.get(owner).unwrap();
+        let id = NetId(row.next_net);
+        net_in(&mut self.mods, &mut self.nets, owner, id, name, range);
+    }
+
+    /// Takes a net that is no port out of its module. At most four writes. Condition: a record is open, there are spare
+    /// writes, and the net is there.
+    pub fn delete_net(&mut self, module: ModId, net: NetId)
+        requires open { self.old.table.is_open ≡ true }
+        requires spare { 3 ≤ self.old.table.spare_writes }
+        requires live { IsSome (net_in self.old.table.now «module» net) }
+        requires alone { port_in self.old.table.now «module» net ≡ None }
+        ensures names { self.new.names ≡ self.old.names }
+        ensures table { self.new.table.now ≡ delete_net self.old.table.now «module» net }
+        ensures pays { Pays 4 self.old.table self.new.table }
+    {
+        let owner = find_under(&Modules, &self.mods, &self.tops, self.top, module.0).unwrap();
+        let key = find_under(&Nets, &self.nets, &self.mods, owner, net.0).unwrap();
+        net_out(&mut self.mods, &mut self.nets, key);
+    }
+
+    /// Puts a new net and a port on it last in a module. At most six writes. Condition: as for `create_net`.
+    pub fn create_port(&mut self, module: ModId, name: usize, dir: Dir, range: Option<Range>)
+        requires open { self.old.table.is_open ≡ true }
+        requires room { 1 ≤ self.old.table.spare_rows }
+        requires spare { 4 ≤ self.old.table.spare_writes }
+        requires name { name < length self.old.names }
+        requires live { IsSome (module_of self.old.table.now «module») }
+        requires few { (m : PModule) → module_of self.old.table.now «module» ≡ Some m
+            → m.next_net < 4294967295 }
+        ensures names { self.new.names ≡ self.old.names }
+        ensures table { self.new.table.now
+            ≡ create_port self.old.table.now «module» (name_at self.old.names name) dir range }
+        ensures pays { Pays 6 self.old.table self.new.table }
+    {
+        let owner = find_under(&Modules, &self.mods, &self.tops, self.top, module.0).unwrap();
+        let row = self.mods.get(owner).unwrap();
+        let id = NetId(row.next_net);
+        let key = net_in(&mut self.mods, &mut self.nets, owner, id, name, range);
+        port_in(&mut self.mods, &mut self.nets, owner, key, dir);
+    }
+}

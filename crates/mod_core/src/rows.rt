@@ -1,0 +1,40 @@
+use emh_base::{Dir, ModId, NetId, Range};
+use row_chains::{Ends, Link};
+
+/// What the whole table has: its modules and the id that the next one gets. There is one such row.
+#[derive(Clone, Copy)]
+pub struct TopRow {
+    pub modules: Ends,
+    pub next_module: u32,
+}
+
+/// A module. Its name is a number of the pool.
+#[derive(Clone, Copy)]
+pub struct ModRow {
+    pub link: Link,
+    pub id: ModId,
+    pub name: usize,
+    pub leaf: bool,
+    pub locked: bool,
+    pub next_net: u32,
+    pub next_inst: u32,
+    pub nets: Ends,
+    pub ports: Ends,
+}
+
+/// A net of a module, and the port on it where there is one.
+#[derive(Clone, Copy)]
+pub struct NetRow {
+    pub link: Link,
+    pub id: NetId,
+    pub name: usize,
+    pub range: Option<Range>,
+    pub port: Option<PortRow>,
+}
+
+/// A port, in the chain of its module's ports. The keys there are those of their nets' rows.
+#[derive(Clone, Copy)]
+pub struct PortRow {
+    pub link: Link,
+    pub dir: Dir,
+}
