@@ -11,3 +11,4 @@ pub mod Readings
 pub mod OneAnswer
 pub mod Ranges
 pub mod Few
+pub mod Reserved

@@ -1,6 +1,7 @@
-ghost use Rattle.std.specs.Prelude.{◌≡◌, ◌+◌, ◌<◌, ◌≤◌, ◌^◌, true, length, slice_index, slice_range, IsTrue, IfOk, IfErr};
+ghost use Rattle.std.specs.Prelude.{◌≡◌, ◌+◌, ◌<◌, ◌≤◌, ◌^◌, true, false, None, length, position, bytes_eq, slice_index, slice_range, IsTrue, IfOk, IfErr};
 ghost use Rattle.std.specs.Option.{SomeIff};
 ghost use Rattle.emh_base.specs.Name.{IsName};
+ghost use Rattle.word_table.specs.Reserved.{reserved_texts};
 ghost use Rattle.vlog_lex.specs.Byte.{begins_word, is_digit};
 ghost use Rattle.vlog_lex.specs.Number.{written};
 ghost use Rattle.vlog_lex.specs.Piece.{case_of, Piece, PieceBy, NumberIs, word_kind};
@@ -123,10 +124,23 @@ fn word_kind(alloc: Global, text: &[u8]) -> Result<TokenKind, LexFault>
     ensures ok { IfOk result (λ kind. kind ≡ word_kind text.now) }
     ensures err { IfErr result (λ fault. fault ≡ LexFault.NoMemory) }
 {
+    if !begins_as_reserved(text) {
+        return Ok(TokenKind::Ident(name_of(alloc, text)?));
+    }
     match reserved_words().find(text) {
         Some(row) => Ok(TokenKind::Reserved(row)),
         None => Ok(TokenKind::Ident(name_of(alloc, text)?)),
     }
+}
+
+/// Whether the first two bytes of a text are such as those of each reserved word: not below a
+/// small letter. Most names of a netlist have a digit or a capital there, or one byte alone, and
+/// aren't looked for in the table of reserved words.
+#[tactic(auto, using(crate::proofs::Reserved::not_reserved))]
+fn begins_as_reserved(text: &[u8]) -> bool
+    ensures { result ≡ false → position (bytes_eq text.now) reserved_texts ≡ None }
+{
+    text.len() > 1 && text[0] >= b'a' && text[1] >= b'a'
 }
 
 /// The name of bytes that are known to be one's.
