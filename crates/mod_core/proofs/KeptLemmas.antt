@@ -1,8 +1,8 @@
 -- The tables over all moments, after they have moved together.
-use Rattle.std.proofs.Common.{◌≡◌, ℕ, ◌+◌, min, List, [], ◌∷◌, ◌++◌, length, false, refl, sym, ap, subst, ◌∙◌}
+use Rattle.std.proofs.Common.{◌≡◌, ℕ, ◌+◌, min, List, [], ◌∷◌, ◌++◌, length, false, sym, subst, ◌∙◌}
 use Rattle.emh_base.specs.declared.plain.Plain.{Plain}
-use Rattle.timeline.specs.Timeline.{Moment, Timeline, Moves}
-use Rattle.timeline.specs.Joined.{join, joined, IsJoint}
+use Rattle.timeline.specs.Timeline.{Timeline, Moves}
+use Rattle.timeline.specs.Joined.{join, IsJoint}
 use Rattle.timeline.proofs.JoinedLemmas.{IsJoint-undone, IsJoint-redone, IsJoint-committed, Moves-joined, joined-push, length-joined}
 use Rattle.undo_slots.specs.Slots.{Rows}
 use Rattle.row_chains.specs.Pays.{Pays}

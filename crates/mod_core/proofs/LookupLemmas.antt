@@ -1,5 +1,5 @@
 -- What look-ups by id find in the rows.
-use Rattle.std.proofs.Common.{◌≡◌, ℕ, ◌==◌, List, length, find, Option, Some, None, option_map, option_and_then, is_some, IsSome, true, false, refl, sym, ap, subst, ◌∙◌}
+use Rattle.std.proofs.Common.{◌≡◌, ℕ, List, length, Option, Some, None, option_map, option_and_then, is_some, true, false, refl, sym, ap, ◌∙◌}
 use Rattle.std.specs.FinMap as rows
 use Rattle.emh_base.specs.declared.ids.ModId.{ModId}
 use Rattle.emh_base.specs.declared.ids.NetId.{NetId}
@@ -7,13 +7,11 @@ use Rattle.emh_base.specs.declared.plain.PNet.{PNet}
 use Rattle.emh_base.specs.declared.plain.PPort.{PPort}
 use Rattle.emh_base.specs.declared.plain.PModule.{PModule}
 use Rattle.flatten_rules.specs.Lookup.{module_of, net_of, port_of}
-use Rattle.flatten_rules.specs.Changes.{net_in, port_in}
 use Rattle.undo_slots.specs.Slots.{Rows}
 use Rattle.row_chains.specs.declared.link.Link.{Link}
 use Rattle.row_chains.specs.Rows.{key_in}
 use Rattle.row_chains.proofs.KeyLemmas.{same_some, none_some}
-use Rattle.row_chains.proofs.FindLemmas.{IsFound, found, find-listed, some_found}
-use Rattle.mod_core.specs.declared.rows.TopRow.{TopRow}
+use Rattle.row_chains.proofs.FindLemmas.{found, find-listed, some_found}
 use Rattle.mod_core.specs.declared.rows.ModRow.{ModRow}
 use Rattle.mod_core.specs.declared.rows.NetRow.{NetRow}
 use Rattle.mod_core.specs.declared.rows.PortRow.{PortRow}

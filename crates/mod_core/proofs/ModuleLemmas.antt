@@ -3,18 +3,16 @@ use Rattle.std.proofs.Common.{◌≡◌, ◌≢◌, ℕ, zero, suc, ◌+◌, ◌
 use Rattle.std.proofs.lemmas.Bool.{cases_eq}
 use Rattle.std.specs.List.{filter_map}
 use Rattle.std.specs.FinMap as rows
-use Rattle.emh_base.specs.declared.ids.ModId.{ModId}
 use Rattle.emh_base.specs.declared.plain.PModule.{PModule}
-use Rattle.emh_base.specs.declared.plain.Plain.{Plain}
 use Rattle.flatten_rules.specs.ModuleChanges.{empty_module, create_module, delete_module}
 use Rattle.undo_slots.specs.Slots.{Rows}
 use Rattle.row_chains.specs.declared.link.Link.{Link}
 use Rattle.row_chains.specs.declared.link.Ends.{Ends}
 use Rattle.row_chains.specs.Chains.{AreChains, walk, ends_with, ends_without}
-use Rattle.row_chains.specs.Rows.{ChainRows, ChainHolders, links, keys, listed, lead_at, follow_at, ends_in}
+use Rattle.row_chains.specs.Rows.{ChainRows, ChainHolders, links, listed, lead_at, ends_in}
 use Rattle.row_chains.proofs.KeyLemmas.{same_some, none_some}
 use Rattle.row_chains.proofs.ChainLemmas.{EndsChange, AreChains-owner, AreChains-no_owner}
-use Rattle.row_chains.proofs.TableLemmas.{get_same, get_other, linked_row, seen-lead_at, seen-follow_at, appended_chains, appended_listed, place, detached_chains, detached_listed}
+use Rattle.row_chains.proofs.TableLemmas.{get_same, get_other, seen-lead_at, seen-follow_at, appended_chains, appended_listed, place, detached_chains, detached_listed}
 use Rattle.mod_core.specs.declared.rows.TopRow.{TopRow}
 use Rattle.mod_core.specs.declared.rows.ModRow.{ModRow}
 use Rattle.mod_core.specs.declared.rows.NetRow.{NetRow}
@@ -22,7 +20,7 @@ use Rattle.mod_core.specs.inside.Linked.{mod_rows, mod_holders, net_rows, net_ho
 use Rattle.mod_core.specs.inside.Good.{ModFace, mod_face, mod_faces, NetFace, net_face, net_faces, AreModsNumbered, IsGood}
 use Rattle.mod_core.specs.inside.Changes.{empty_chain, joined_rows, joined_ends, new_module}
 use Rattle.mod_core.specs.Mods.{name_at}
-use Rattle.mod_core.proofs.NumberLemmas.{WasModule, WasNet, WasCounted, mods_from, mods_added, nets_from}
+use Rattle.mod_core.proofs.NumberLemmas.{WasCounted, mods_from, mods_added, nets_from}
 use Rattle.mod_core.proofs.TableLemmas.{unequal, itself}
 
 walk_none : (row : ℕ → Option Link) (steps : ℕ) → walk row steps None ≡ []

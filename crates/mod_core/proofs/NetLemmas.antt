@@ -1,30 +1,26 @@
 -- The table after a change of a net.
-use Rattle.std.proofs.Common.{◌≡◌, ◌≢◌, ℕ, ◌+◌, ◌<◌, ◌≤◌, ◌==◌, not, filter, Bool, true, false, cond, List, [], ◌∷◌, ◌++◌, length, map, Option, Some, None, option_map, option_and_then, is_some, refl, sym, ap, subst, ◌∙◌, inl, inr, arith}
+use Rattle.std.proofs.Common.{◌≡◌, ◌≢◌, ℕ, ◌+◌, ◌<◌, ◌≤◌, ◌==◌, not, filter, Bool, true, List, [], ◌∷◌, ◌++◌, length, Option, Some, None, option_map, option_and_then, refl, sym, ap, ◌∙◌, inl, inr, arith}
 use Rattle.std.proofs.lemmas.Bool.{cases_eq}
 use Rattle.std.specs.FinMap as rows
-use Rattle.emh_base.specs.declared.ids.NetId.{NetId}
 use Rattle.emh_base.specs.declared.plain.Range.{Range}
 use Rattle.emh_base.specs.declared.plain.PNet.{PNet}
-use Rattle.emh_base.specs.declared.plain.PPort.{PPort}
-use Rattle.emh_base.specs.declared.plain.PModule.{PModule}
 use Rattle.flatten_rules.specs.Changes.{with_module}
-use Rattle.flatten_rules.specs.NetChanges.{with_net, without_net, renamed}
-use Rattle.timeline.specs.Maps.{put}
+use Rattle.flatten_rules.specs.NetChanges.{with_net, without_net}
 use Rattle.undo_slots.specs.Slots.{Rows}
 use Rattle.row_chains.specs.declared.link.Link.{Link}
 use Rattle.row_chains.specs.declared.link.Ends.{Ends}
-use Rattle.row_chains.specs.Chains.{AreChains, ends_with, ends_without}
-use Rattle.row_chains.specs.Rows.{ChainRows, links, lead_at, follow_at, ends_in}
+use Rattle.row_chains.specs.Chains.{ends_with, ends_without}
+use Rattle.row_chains.specs.Rows.{links, lead_at, ends_in}
 use Rattle.row_chains.proofs.KeyLemmas.{same_some, none_some}
 use Rattle.row_chains.proofs.ChainLemmas.{EndsChange}
-use Rattle.row_chains.proofs.TableLemmas.{get_same, get_other, seen-lead_at, seen-follow_at, AreChains-same, listed-same, listed-mapped, appended_chains, appended_listed, appended_other, place, detached_chains, detached_listed, detached_other}
+use Rattle.row_chains.proofs.TableLemmas.{get_same, get_other, seen-lead_at, seen-follow_at, AreChains-same, listed-same, appended_chains, appended_listed, appended_other, place, detached_chains, detached_listed, detached_other}
 use Rattle.mod_core.specs.declared.rows.ModRow.{ModRow}
 use Rattle.mod_core.specs.declared.rows.NetRow.{NetRow}
 use Rattle.mod_core.specs.inside.Linked.{net_rows, net_holders, port_rows, port_holders, port_link, net_of_row, port_on, port_of_row, net_shown, port_shown, nets_from, ports_from, module_of_row, table_of, Upper, upper}
-use Rattle.mod_core.specs.inside.Good.{ModFace, mod_face, mod_faces, NetFace, net_face, net_faces, IsGood}
+use Rattle.mod_core.specs.inside.Good.{mod_face, mod_faces, net_face, net_faces, IsGood}
 use Rattle.mod_core.specs.inside.Changes.{joined_rows, joined_ends, new_net}
 use Rattle.mod_core.specs.Mods.{name_at}
-use Rattle.mod_core.proofs.NumberLemmas.{WasNet, WasCounted, nets_from as numbered_from, nets_added}
+use Rattle.mod_core.proofs.NumberLemmas.{nets_from as numbered_from, nets_added}
 use Rattle.mod_core.proofs.TableLemmas.{unequal, itself, changed_chains, changed_numbered, changed_counted, changed_ends, changed_table}
 
 -- a net comes last in its module

@@ -1,13 +1,12 @@
 -- The tables at the start.
-use Rattle.std.proofs.Common.{◌≡◌, ℕ, ◌<◌, min, List, [], ◌∷◌, length, Option, Some, None, option_map, option_and_then, false, refl, sym, ap, subst, ◌∙◌, inl, inr, arith}
+use Rattle.std.proofs.Common.{◌≡◌, ℕ, min, List, [], length, Option, Some, None, option_map, option_and_then, false, refl, sym, ap, subst, ◌∙◌, inl, inr, arith}
 use Rattle.std.proofs.lemmas.Bool.{cases_eq}
 use Rattle.std.specs.Ordering.{nat_cmp}
 use Rattle.std.specs.FinMap as rows
 use Rattle.std.specs.FinMap.{get-empty}
-use Rattle.emh_base.specs.declared.plain.Plain.{Plain}
 use Rattle.flatten_rules.specs.Lookup.{no_modules}
 use Rattle.timeline.specs.Timeline.{Timeline, new_timeline}
-use Rattle.timeline.specs.Joined.{join, IsJoint}
+use Rattle.timeline.specs.Joined.{join}
 use Rattle.undo_slots.specs.Slots.{Rows}
 use Rattle.row_chains.specs.declared.link.Link.{Link}
 use Rattle.row_chains.specs.declared.link.Ends.{Ends}
@@ -18,10 +17,10 @@ use Rattle.row_chains.proofs.TableLemmas.{get_same, get_other}
 use Rattle.mod_core.specs.declared.rows.TopRow.{TopRow}
 use Rattle.mod_core.specs.declared.rows.ModRow.{ModRow}
 use Rattle.mod_core.specs.declared.rows.NetRow.{NetRow}
-use Rattle.mod_core.specs.inside.Linked.{mod_rows, mod_holders, net_rows, net_holders, port_rows, port_holders, module_shown, table_from, table_of, Upper, upper}
-use Rattle.mod_core.specs.inside.Good.{mod_face, mod_faces, net_face, net_faces, IsGood}
+use Rattle.mod_core.specs.inside.Linked.{mod_rows, mod_holders, net_rows, net_holders, port_rows, port_holders, module_shown, table_from, table_of, upper}
+use Rattle.mod_core.specs.inside.Good.{mod_face, net_face, IsGood}
 use Rattle.mod_core.specs.inside.Changes.{empty_chain}
-use Rattle.mod_core.specs.inside.Kept.{Together, IsKept}
+use Rattle.mod_core.specs.inside.Kept.{IsKept}
 use Rattle.mod_core.proofs.ModuleLemmas.{listed_none}
 
 -- chains without rows are empty

@@ -1,5 +1,5 @@
 -- Ids and names of modules and nets, after a change.
-use Rattle.std.proofs.Common.{◌≡◌, ◌≢◌, ℕ, ◌+◌, ◌<◌, ◌≤◌, Option, Some, None, refl, sym, ap, subst, ◌∙◌, inl, inr, arith}
+use Rattle.std.proofs.Common.{◌≡◌, ◌≢◌, ℕ, ◌+◌, ◌<◌, ◌≤◌, Option, Some, None, sym, ap, subst, ◌∙◌, inl, inr, arith}
 use Rattle.std.proofs.lemmas.Bool.{cases_eq}
 use Rattle.row_chains.proofs.KeyLemmas.{same_some, none_some}
 use Rattle.mod_core.specs.inside.Good.{ModFace, NetFace, AreModsNumbered, AreNetsNumbered}

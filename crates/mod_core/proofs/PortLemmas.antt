@@ -1,5 +1,5 @@
 -- The table after a net has become a port, or a port a net alone.
-use Rattle.std.proofs.Common.{◌≡◌, ◌≢◌, ℕ, ◌<◌, ◌≤◌, ◌==◌, not, filter, Bool, true, false, List, [], ◌∷◌, ◌++◌, length, Option, Some, None, option_map, option_and_then, refl, sym, ap, subst, ◌∙◌, inl, inr, arith}
+use Rattle.std.proofs.Common.{◌≡◌, ◌≢◌, ℕ, ◌≤◌, ◌==◌, not, filter, Bool, true, List, [], ◌∷◌, ◌++◌, length, Option, Some, None, option_map, option_and_then, refl, sym, ap, subst, ◌∙◌, inl, inr, arith}
 use Rattle.std.proofs.lemmas.Bool.{cases_eq}
 use Rattle.std.specs.FinMap as rows
 use Rattle.emh_base.specs.declared.plain.Dir.{Dir}
@@ -9,8 +9,8 @@ use Rattle.flatten_rules.specs.Changes.{with_module}
 use Rattle.undo_slots.specs.Slots.{Rows}
 use Rattle.row_chains.specs.declared.link.Link.{Link}
 use Rattle.row_chains.specs.declared.link.Ends.{Ends}
-use Rattle.row_chains.specs.Chains.{AreChains, ends_with, ends_without}
-use Rattle.row_chains.specs.Rows.{links, lead_at, follow_at, ends_in}
+use Rattle.row_chains.specs.Chains.{ends_with, ends_without}
+use Rattle.row_chains.specs.Rows.{links, lead_at, ends_in}
 use Rattle.row_chains.proofs.KeyLemmas.{same_some, none_some}
 use Rattle.row_chains.proofs.ChainLemmas.{EndsChange}
 use Rattle.row_chains.proofs.TableLemmas.{get_same, get_other, seen-lead_at, seen-follow_at, AreChains-same, listed-same, appended_chains, appended_listed, appended_other, place, detached_chains, detached_listed, detached_other}
@@ -18,7 +18,7 @@ use Rattle.mod_core.specs.declared.rows.ModRow.{ModRow}
 use Rattle.mod_core.specs.declared.rows.NetRow.{NetRow}
 use Rattle.mod_core.specs.declared.rows.PortRow.{PortRow}
 use Rattle.mod_core.specs.inside.Linked.{net_rows, net_holders, port_rows, port_holders, port_link, port_leading, port_following, net_of_row, port_on, port_of_row, net_shown, port_shown, nets_from, ports_from, module_of_row, table_of, Upper, upper}
-use Rattle.mod_core.specs.inside.Good.{ModFace, mod_face, mod_faces, NetFace, net_face, net_faces, port_owner, IsGood}
+use Rattle.mod_core.specs.inside.Good.{mod_face, mod_faces, NetFace, net_face, net_faces, port_owner, IsGood}
 use Rattle.mod_core.specs.inside.Changes.{joined_rows, joined_ends, new_port}
 use Rattle.mod_core.proofs.NumberLemmas.{WasNet, nets_from as numbered_from}
 use Rattle.mod_core.proofs.TableLemmas.{unequal, itself, changed_chains, changed_numbered, changed_counted, changed_ends, changed_table}

@@ -1,14 +1,12 @@
 -- The table of modules, after one of them has changed.
-use Rattle.std.proofs.Common.{◌≡◌, ◌≢◌, ℕ, ◌<◌, ◌≤◌, ◌==◌, Bool, true, false, cond, List, length, map, Option, Some, None, option_map, option_and_then, refl, sym, ap, subst, ◌∙◌, inl, inr, arith}
+use Rattle.std.proofs.Common.{◌≡◌, ◌≢◌, ℕ, ◌<◌, ◌≤◌, ◌==◌, true, false, cond, List, length, Option, Some, None, option_map, option_and_then, refl, sym, ap, subst, ◌∙◌, inl, inr, arith}
 use Rattle.std.proofs.lemmas.Grind.{common_steps}
 use Rattle.std.proofs.lemmas.Bool.{cases_eq}
 use Rattle.std.specs.FinMap as rows
 use Rattle.emh_base.specs.declared.ids.ModId.{ModId}
 use Rattle.emh_base.specs.declared.plain.PModule.{PModule}
-use Rattle.emh_base.specs.declared.plain.Plain.{Plain}
 use Rattle.flatten_rules.specs.Changes.{with_module}
 use Rattle.undo_slots.specs.Slots.{Rows}
-use Rattle.row_chains.specs.declared.link.Link.{Link}
 use Rattle.row_chains.specs.Chains.{AreChains}
 use Rattle.row_chains.specs.Rows.{ChainHolders, links, ends_in}
 use Rattle.row_chains.proofs.KeyLemmas.{same_some}

@@ -1,5 +1,5 @@
 -- A module that is changed twice, and instances where there are none.
-use Rattle.std.proofs.Common.{◌≡◌, ℕ, ◌==◌, Bool, true, false, cond, List, [], ◌∷◌, map, Option, Some, None, option_map, refl, sym, ap, ◌∙◌}
+use Rattle.std.proofs.Common.{◌≡◌, ℕ, ◌==◌, Bool, true, false, cond, List, [], ◌∷◌, map, Option, Some, None, option_map, refl, ap, ◌∙◌}
 use Rattle.std.specs.List.{filter_map, cons_option}
 use Rattle.std.specs.FinMap as rows
 use Rattle.emh_base.specs.declared.ids.ModId.{ModId}
@@ -12,7 +12,7 @@ use Rattle.row_chains.specs.Rows.{keys}
 use Rattle.mod_core.specs.declared.rows.TopRow.{TopRow}
 use Rattle.mod_core.specs.declared.rows.ModRow.{ModRow}
 use Rattle.mod_core.specs.declared.rows.NetRow.{NetRow}
-use Rattle.mod_core.specs.inside.Linked.{mod_rows, module_of_row, module_shown, modules_from, table_from, table_of, Upper}
+use Rattle.mod_core.specs.inside.Linked.{mod_rows, module_of_row, module_shown, table_from, table_of, Upper}
 
 pub twice : (f g : PModule → PModule) → ((m : PModule) → (f m).id ≡ m.id) → (M : Plain) (id : ModId) → with_module (with_module M id f) id g ≡ with_module M id (λ m. g (f m))
 twice f g same M id = λ i. record M { modules = all M.modules i }

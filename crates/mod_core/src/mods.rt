@@ -5,13 +5,13 @@ ghost use Rattle.emh_base.specs.declared.plain.PModule.{PModule};
 ghost use Rattle.flatten_rules.specs.Lookup.{module_of, no_modules};
 ghost use Rattle.flatten_rules.specs.Changes.{net_in, port_in};
 ghost use Rattle.flatten_rules.specs.ModuleChanges.{create_module};
-ghost use Rattle.flatten_rules.specs.NetChanges.{create_net, delete_net, create_port};
+ghost use Rattle.flatten_rules.specs.NetChanges.{create_net, delete_net, create_port, delete_port};
 ghost use Rattle.mod_core.specs.Mods.{name_at};
 
-use crate::chains::{Modules, Nets};
+use crate::chains::{Modules, Nets, Ports};
 use crate::modules::module_in;
 use crate::nets::{net_in, net_out};
-use crate::ports::port_in;
+use crate::ports::{port_in, port_out};
 use crate::rows::{ModRow, NetRow, TopRow};
 use emh_base::{Dir, ModId, NetId, NoMemory, Pool, Range};
 use row_chains::{Ends, find_under};
@@ -288,5 +288,23 @@ impl Mods {
         let id = NetId(row.next_net);
         let key = net_in(&mut self.mods, &mut self.nets, owner, id, name, range);
         port_in(&mut self.mods, &mut self.nets, owner, key, dir);
+    }
+
+    /// Takes a port and its net out of their module. At most eight writes. Condition: a record is open, there are spare
+    /// writes, and the port is there.
+    pub fn delete_port(&mut self, module: ModId, port: NetId)
+        requires open { self.old.table.is_open ≡ true }
+        requires spare { 6 ≤ self.old.table.spare_writes }
+        requires live { IsSome (port_in self.old.table.now «module» port) }
+        ensures names { self.new.names ≡ self.old.names }
+        ensures table { self.new.table.now ≡ delete_port self.old.table.now «module» port }
+        ensures pays { Pays 8 self.old.table self.new.table }
+    {
+        let owner = find_under(&Modules, &self.mods, &self.tops, self.top, module.0).unwrap();
+        let key = find_under(&Ports, &self.nets, &self.mods, owner, port.0).unwrap();
+        let net = self.nets.get(key).unwrap();
+        let row = net.port.unwrap();
+        port_out(&mut self.mods, &mut self.nets, key, net, row);
+        net_out(&mut self.mods, &mut self.nets, key);
     }
 }

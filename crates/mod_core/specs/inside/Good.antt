@@ -1,8 +1,7 @@
 -- What holds of the rows in each moment.
-use Rattle.std.specs.Prelude.{◌≡◌, ℕ, ◌<◌, List, length, Option, Some, None, IsSome, option_map}
+use Rattle.std.specs.Prelude.{◌≡◌, ℕ, ◌<◌, Option, Some, None, option_map}
 use Rattle.std.specs.FinMap as map
 use Rattle.undo_slots.specs.Slots.{Rows}
-use Rattle.row_chains.specs.declared.link.Link.{Link}
 use Rattle.row_chains.specs.Chains.{AreChains}
 use Rattle.row_chains.specs.Rows.{links, ends_in}
 use Rattle.mod_core.specs.declared.rows.TopRow.{TopRow}

@@ -1,7 +1,5 @@
-use Rattle.std.proofs.Common.{◌≡◌, ap, sym, ◌∙◌, Some, None, Option, option_map, option_and_then, is_some, refl}
+use Rattle.std.proofs.Common.{ap, sym, ◌∙◌, option_and_then, is_some}
 use Rattle.std.specs.FinMap as map
-use Rattle.timeline.specs.Timeline.{Timeline}
-use Rattle.undo_slots.specs.Slots.{Rows}
 use Rattle.row_chains.specs.Rows.{ends_in}
 use Rattle.row_chains.specs.Rows.{links}
 use Rattle.row_chains.proofs.LiveLemmas.{prev_live, next_live, owner_live, live_joined}

@@ -1,4 +1,4 @@
-use Rattle.std.proofs.Common.{◌≡◌, ap, sym, ◌∙◌, Some, None, Option, option_map, option_and_then, is_some, refl}
+use Rattle.std.proofs.Common.{ap, sym, ◌∙◌, option_map, is_some}
 use Rattle.std.specs.FinMap as map
 use Rattle.timeline.specs.Timeline.{Timeline}
 use Rattle.undo_slots.specs.Slots.{Rows}

@@ -1,4 +1,4 @@
-use Rattle.std.proofs.Common.{sym, subst, ◌∙◌, refl, ◌≡◌}
+use Rattle.std.proofs.Common.{sym, subst, ◌∙◌}
 use Rattle.timeline.specs.Timeline.{Timeline}
 use Rattle.timeline.specs.Joined.{join}
 use Rattle.undo_slots.specs.Slots.{Rows}

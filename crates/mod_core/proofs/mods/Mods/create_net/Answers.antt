@@ -1,18 +1,14 @@
-use Rattle.std.proofs.Common.{◌≡◌, ◌<◌, ◌∙◌, ℕ, List, Option, Some, None, ap, sym, subst, length, is_some, option_and_then, refl}
+use Rattle.std.proofs.Common.{◌≡◌, ◌<◌, ◌∙◌, Some, ap, sym, subst, length, is_some}
 use Rattle.std.specs.FinMap as map
-use Rattle.emh_base.specs.declared.plain.PModule.{PModule}
-use Rattle.flatten_rules.specs.Lookup.{module_of, net_of}
-use Rattle.flatten_rules.specs.Changes.{net_in, port_in}
+use Rattle.flatten_rules.specs.Lookup.{module_of}
 use Rattle.row_chains.proofs.KeyLemmas.{same_some}
 use Rattle.row_chains.proofs.PaysLemmas.{Pays-none}
 use Rattle.mod_core.specs.declared.rows.ModRow.{ModRow}
-use Rattle.mod_core.specs.declared.rows.NetRow.{NetRow}
 use Rattle.mod_core.specs.Mods.{KeptTable}
 use Rattle.mod_core.specs.inside.Linked.{module_of_row, upper}
-use Rattle.mod_core.specs.inside.Changes.{NetIn}
 use Rattle.mod_core.proofs.KeptLemmas.{kept_paid}
-use Rattle.mod_core.proofs.LookupLemmas.{live_key, found_module, live_net, found_net}
-use Rattle.mod_core.proofs.EffectLemmas.{module_made, net_made, net_gone, some_then}
+use Rattle.mod_core.proofs.LookupLemmas.{live_key, found_module}
+use Rattle.mod_core.proofs.EffectLemmas.{net_made}
 use Rattle.mod_core.proofs.mods.Mods.create_net.Goals as goal
 
 pub unwrap-owner-requires : goal.unwrap-owner-requires
@@ -44,8 +40,8 @@ invariant_of-self c =
     let named = sym c.find_under.ensures ∙ c.unwrap-owner.ensures in
     let at : map.get i.mods.now c.unwrap-owner.result ≡ Some c.unwrap-row.result = sym c.get.ensures ∙ c.unwrap-row.ensures in
     let few = subst (λ ns. c.args.name < length ns) (ap (λ (v : KeptTable). v.names) (sym c.self.view_is)) c.requires.name in
-    let made = net_made i.names i.top i.tops.now i.mods.now c.net_in.new.mods.now i.nets.now g c.net_in.new.nets.now c.args.«module» c.unwrap-owner.result named c.unwrap-row.result c.net_in.result c.args.name c.args.range at few (c.net_in.ensures.effect c.unwrap-row.result at) in
-    kept_paid i.names i.top i.tops i.mods i.nets c.self.invariant i.tops c.net_in.new.mods c.net_in.new.nets 0 1 2 (Pays-none i.tops) c.net_in.ensures.mods_pay c.net_in.ensures.nets_pay made.0
+    let made = net_made i.names i.top i.tops.now i.mods.now i.nets.now g c.args.«module» c.unwrap-owner.result named c.net_in.new.mods.now c.net_in.new.nets.now c.unwrap-row.result c.net_in.result c.args.name c.args.range at few (c.net_in.ensures.effect c.unwrap-row.result at) in
+    kept_paid i.names i.top i.tops i.mods i.nets c.self.invariant i.tops c.net_in.new.mods c.net_in.new.nets 0 1 2 (Pays-none i.tops) c.net_in.ensures.mods_pay c.net_in.ensures.nets_pay made.good
 
 pub returns-clause-table : goal.returns-clause-table
 returns-clause-table c =
@@ -55,4 +51,4 @@ returns-clause-table c =
     let at : map.get i.mods.now c.unwrap-owner.result ≡ Some c.unwrap-row.result = sym c.get.ensures ∙ c.unwrap-row.ensures in
     let few = subst (λ ns. c.args.name < length ns) (ap (λ (v : KeptTable). v.names) (sym c.self.view_is)) c.requires.name in
     rw (← c.self.view_is)
-    (net_made i.names i.top i.tops.now i.mods.now c.net_in.new.mods.now i.nets.now g c.net_in.new.nets.now c.args.«module» c.unwrap-owner.result named c.unwrap-row.result c.net_in.result c.args.name c.args.range at few (c.net_in.ensures.effect c.unwrap-row.result at)).1
+    (net_made i.names i.top i.tops.now i.mods.now i.nets.now g c.args.«module» c.unwrap-owner.result named c.net_in.new.mods.now c.net_in.new.nets.now c.unwrap-row.result c.net_in.result c.args.name c.args.range at few (c.net_in.ensures.effect c.unwrap-row.result at)).table

@@ -1,18 +1,13 @@
-use Rattle.std.proofs.Common.{◌≡◌, ◌<◌, ◌∙◌, ℕ, List, Option, Some, None, ap, sym, subst, length, is_some, option_and_then, refl}
-use Rattle.std.specs.FinMap as map
+use Rattle.std.proofs.Common.{◌∙◌, ap, sym, is_some, option_and_then}
 use Rattle.emh_base.specs.declared.plain.PModule.{PModule}
 use Rattle.flatten_rules.specs.Lookup.{module_of, net_of}
 use Rattle.flatten_rules.specs.Changes.{net_in, port_in}
-use Rattle.row_chains.proofs.KeyLemmas.{same_some}
 use Rattle.row_chains.proofs.PaysLemmas.{Pays-none}
-use Rattle.mod_core.specs.declared.rows.ModRow.{ModRow}
-use Rattle.mod_core.specs.declared.rows.NetRow.{NetRow}
 use Rattle.mod_core.specs.Mods.{KeptTable}
-use Rattle.mod_core.specs.inside.Linked.{module_of_row, upper}
-use Rattle.mod_core.specs.inside.Changes.{NetIn}
+use Rattle.mod_core.specs.inside.Linked.{upper}
 use Rattle.mod_core.proofs.KeptLemmas.{kept_paid}
 use Rattle.mod_core.proofs.LookupLemmas.{live_key, found_module, live_net, found_net}
-use Rattle.mod_core.proofs.EffectLemmas.{module_made, net_made, net_gone, some_then}
+use Rattle.mod_core.proofs.EffectLemmas.{net_gone, some_then}
 use Rattle.mod_core.proofs.mods.Mods.delete_net.Goals as goal
 
 pub unwrap-owner-requires : goal.unwrap-owner-requires
@@ -46,8 +41,8 @@ invariant_of-self c =
     let g = c.self.invariant.all.now in
     let named = sym c.find_under.ensures ∙ c.unwrap-owner.ensures in
     let none = ap (λ (v : KeptTable). port_in v.table.now c.args.«module» c.args.net) c.self.view_is ∙ c.requires.alone in
-    let gone = net_gone i.names i.top i.tops.now i.mods.now c.net_out.new.mods.now i.nets.now g c.net_out.new.nets.now c.args.«module» c.unwrap-owner.result named c.args.net c.unwrap-key.result (sym c.find_under-2.ensures ∙ c.unwrap-key.ensures) none c.net_out.ensures.effect in
-    kept_paid i.names i.top i.tops i.mods i.nets c.self.invariant i.tops c.net_out.new.mods c.net_out.new.nets 0 1 3 (Pays-none i.tops) c.net_out.ensures.mods_pay c.net_out.ensures.nets_pay gone.0
+    let gone = net_gone i.names i.top i.tops.now i.mods.now i.nets.now g c.args.«module» c.unwrap-owner.result named c.net_out.new.mods.now c.net_out.new.nets.now c.args.net c.unwrap-key.result (sym c.find_under-2.ensures ∙ c.unwrap-key.ensures) none c.net_out.ensures.effect in
+    kept_paid i.names i.top i.tops i.mods i.nets c.self.invariant i.tops c.net_out.new.mods c.net_out.new.nets 0 1 3 (Pays-none i.tops) c.net_out.ensures.mods_pay c.net_out.ensures.nets_pay gone.good
 
 pub returns-clause-table : goal.returns-clause-table
 returns-clause-table c =
@@ -56,4 +51,4 @@ returns-clause-table c =
     let named = sym c.find_under.ensures ∙ c.unwrap-owner.ensures in
     let none = ap (λ (v : KeptTable). port_in v.table.now c.args.«module» c.args.net) c.self.view_is ∙ c.requires.alone in
     rw (← c.self.view_is)
-    (net_gone i.names i.top i.tops.now i.mods.now c.net_out.new.mods.now i.nets.now g c.net_out.new.nets.now c.args.«module» c.unwrap-owner.result named c.args.net c.unwrap-key.result (sym c.find_under-2.ensures ∙ c.unwrap-key.ensures) none c.net_out.ensures.effect).1
+    (net_gone i.names i.top i.tops.now i.mods.now i.nets.now g c.args.«module» c.unwrap-owner.result named c.net_out.new.mods.now c.net_out.new.nets.now c.args.net c.unwrap-key.result (sym c.find_under-2.ensures ∙ c.unwrap-key.ensures) none c.net_out.ensures.effect).table

@@ -1,4 +1,4 @@
-use Rattle.std.proofs.Common.{◌≡◌, ℕ, ap, sym, ◌∙◌, drop, ◌++◌, ◌∷◌, [], false, List}
+use Rattle.std.proofs.Common.{◌≡◌, ap, ◌∙◌, drop, ◌++◌, ◌∷◌, [], List}
 use Rattle.std.specs.FinMap as map
 use Rattle.timeline.specs.Timeline.{Moment, Timeline}
 use Rattle.undo_slots.specs.Slots.{Rows}

@@ -1,4 +1,4 @@
-use Rattle.std.proofs.Common.{ap, sym, subst, length, ◌∙◌, ℕ, ◌<◌, arith}
+use Rattle.std.proofs.Common.{ap, sym, subst, length, ◌∙◌, ◌<◌}
 use Rattle.mod_core.specs.Mods.{KeptTable}
 use Rattle.mod_core.proofs.KeptLemmas.{lengths, undone}
 use Rattle.mod_core.proofs.mods.Mods.undo.Goals as goal
