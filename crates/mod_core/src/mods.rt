@@ -1,4 +1,4 @@
-ghost use Rattle.std.specs.Prelude.{◌≡◌, ℕ, ◌+◌, ◌-◌, ◌<◌, ◌≤◌, [], ◌∷◌, ◌++◌, length, position, slice_get, bytes_eq, IsSome, OnOk, OnErr, IfOk, IsSomeAnd, true, false, drop, Some, None};
+ghost use Rattle.std.specs.Prelude.{◌≡◌, ℕ, ◌+◌, ◌-◌, ◌<◌, ◌≤◌, [], ◌∷◌, ◌++◌, length, position, slice_get, bytes_eq, is_some, option_map, option_and_then, IsSome, OnOk, OnErr, IfOk, IsSomeAnd, true, false, drop, Some, None};
 ghost use Rattle.timeline.specs.Timeline.{Moves, new_timeline};
 ghost use Rattle.row_chains.specs.Pays.{Pays};
 ghost use Rattle.emh_base.specs.Pool.{with_name, number_in};
@@ -7,6 +7,10 @@ ghost use Rattle.flatten_rules.specs.Lookup.{module_of, no_modules};
 ghost use Rattle.flatten_rules.specs.Changes.{net_in, port_in};
 ghost use Rattle.flatten_rules.specs.ModuleChanges.{create_module, delete_module, rename_module, with_lock};
 ghost use Rattle.flatten_rules.specs.NetChanges.{create_net, delete_net, create_port, delete_port, rename_net};
+ghost use Rattle.undo_slots.specs.Slots.{Rows};
+ghost use Rattle.mod_core.specs.declared.rows.ModRow.{ModRow};
+ghost use Rattle.mod_core.specs.declared.rows.NetRow.{NetRow};
+ghost use Rattle.mod_core.specs.inside.Linked.{module_of_row, net_of_row, port_of_row};
 ghost use Rattle.mod_core.specs.Mods.{name_at};
 
 use crate::chains::{Modules, Nets, Ports};
@@ -117,6 +121,86 @@ impl Mods {
         ensures { slice_get self.now.names number ≡ Some result.now }
     {
         self.names.at(number)
+    }
+
+    /// Whether a module is there.
+    pub fn is_module(&self, id: ModId) -> bool
+        ensures { result ≡ is_some (module_of self.now.table.now id) }
+    {
+        self.module_row(id).is_some()
+    }
+
+    /// Whether a module is a leaf; none where it isn't there.
+    pub fn is_leaf(&self, id: ModId) -> Option<bool>
+        ensures { result ≡ option_map (λ m. m.leaf) (module_of self.now.table.now id) }
+    {
+        Some(self.module_row(id)?.leaf)
+    }
+
+    /// Whether a module is locked; none where it isn't there.
+    pub fn is_locked(&self, id: ModId) -> Option<bool>
+        ensures { result ≡ option_map (λ m. m.locked) (module_of self.now.table.now id) }
+    {
+        Some(self.module_row(id)?.locked)
+    }
+
+    /// The id that the next net of a module gets; none where the module isn't there.
+    pub fn next_net(&self, id: ModId) -> Option<u32>
+        ensures { result ≡ option_map (λ m. m.next_net) (module_of self.now.table.now id) }
+    {
+        Some(self.module_row(id)?.next_net)
+    }
+
+    /// The id that the next module gets.
+    pub fn next_module(&self) -> u32
+        ensures { result ≡ self.now.table.now.next_module }
+    {
+        self.tops.get(self.top).unwrap().next_module
+    }
+
+    /// The range of a net, which has one bit where it has none; none where the net isn't there.
+    pub fn net_range(&self, module: ModId, net: NetId) -> Option<Option<Range>>
+        ensures { result ≡ option_map (λ there. there.range)
+            (net_in self.now.table.now «module» net) }
+    {
+        Some(self.net_row(module, net)?.range)
+    }
+
+    /// The direction of a port, which is named by its inner net; none where it isn't there.
+    pub fn port_dir(&self, module: ModId, port: NetId) -> Option<Dir>
+        ensures { result ≡ option_map (λ there. there.dir)
+            (port_in self.now.table.now «module» port) }
+    {
+        Some(self.port_row(module, port)?.port?.dir)
+    }
+
+    /// The row of a module.
+    fn module_row(&self, id: ModId) -> Option<ModRow>
+        ensures { (nets : Rows NetRow) × (module_of self.now.table.now id
+            ≡ option_map (module_of_row self.now.names nets) result) }
+    {
+        let key = find_under(&Modules, &self.mods, &self.tops, self.top, id.0)?;
+        self.mods.get(key)
+    }
+
+    /// The row of a net.
+    fn net_row(&self, module: ModId, net: NetId) -> Option<NetRow>
+        ensures { net_in self.now.table.now «module» net
+            ≡ option_map (net_of_row self.now.names) result }
+    {
+        let owner = find_under(&Modules, &self.mods, &self.tops, self.top, module.0)?;
+        let key = find_under(&Nets, &self.nets, &self.mods, owner, net.0)?;
+        self.nets.get(key)
+    }
+
+    /// The row of a port's net.
+    fn port_row(&self, module: ModId, port: NetId) -> Option<NetRow>
+        ensures { port_in self.now.table.now «module» port
+            ≡ option_and_then port_of_row result }
+    {
+        let owner = find_under(&Modules, &self.mods, &self.tops, self.top, module.0)?;
+        let key = find_under(&Ports, &self.nets, &self.mods, owner, port.0)?;
+        self.nets.get(key)
     }
 
     /// Opens a record. Condition: none is open, and there is a spare write.
