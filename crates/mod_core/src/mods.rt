@@ -1,4 +1,4 @@
-ghost use Rattle.std.specs.Prelude.{◌≡◌, ℕ, ◌+◌, ◌-◌, ◌<◌, ◌≤◌, [], ◌∷◌, ◌++◌, length, position, slice_get, bytes_eq, is_some, option_map, option_and_then, IsSome, OnOk, OnErr, IfOk, IsSomeAnd, true, false, drop, Some, None};
+ghost use Rattle.std.specs.Prelude.{◌≡◌, ℕ, ◌+◌, ◌-◌, ◌<◌, ◌≤◌, [], ◌∷◌, ◌++◌, length, position, slice_get, bytes_eq, is_some, option_map, option_copied, option_and_then, IsSome, OnOk, OnErr, IfOk, IsSomeAnd, true, false, drop, Some, None};
 ghost use Rattle.timeline.specs.Timeline.{Moves, new_timeline};
 ghost use Rattle.row_chains.specs.Pays.{Pays};
 ghost use Rattle.emh_base.specs.Pool.{with_name, number_in};
@@ -144,6 +144,15 @@ impl Mods {
         Some(self.module_row(id)?.locked)
     }
 
+    /// The name of a module; none where it isn't there.
+    pub fn module_name(&self, id: ModId) -> Option<&Name>
+        ensures { option_copied result
+            ≡ option_map (λ m. m.name) (module_of self.now.table.now id) }
+    {
+        let row = self.module_row(id)?;
+        Some(self.at(row.name))
+    }
+
     /// The id that the next net of a module gets; none where the module isn't there.
     pub fn next_net(&self, id: ModId) -> Option<u32>
         ensures { result ≡ option_map (λ m. m.next_net) (module_of self.now.table.now id) }
@@ -156,6 +165,15 @@ impl Mods {
         ensures { result ≡ self.now.table.now.next_module }
     {
         self.tops.get(self.top).unwrap().next_module
+    }
+
+    /// The name of a net, which is that of the port on it; none where it isn't there.
+    pub fn net_name(&self, module: ModId, net: NetId) -> Option<&Name>
+        ensures { option_copied result
+            ≡ option_map (λ there. there.name) (net_in self.now.table.now «module» net) }
+    {
+        let row = self.net_row(module, net)?;
+        Some(self.at(row.name))
     }
 
     /// The range of a net, which has one bit where it has none; none where the net isn't there.
@@ -176,8 +194,9 @@ impl Mods {
 
     /// The row of a module.
     fn module_row(&self, id: ModId) -> Option<ModRow>
-        ensures { (nets : Rows NetRow) × (module_of self.now.table.now id
+        ensures shown { (nets : Rows NetRow) × (module_of self.now.table.now id
             ≡ option_map (module_of_row self.now.names nets) result) }
+        ensures named { (row : ModRow) → result ≡ Some row → row.name < length self.now.names }
     {
         let key = find_under(&Modules, &self.mods, &self.tops, self.top, id.0)?;
         self.mods.get(key)
@@ -185,8 +204,9 @@ impl Mods {
 
     /// The row of a net.
     fn net_row(&self, module: ModId, net: NetId) -> Option<NetRow>
-        ensures { net_in self.now.table.now «module» net
+        ensures shown { net_in self.now.table.now «module» net
             ≡ option_map (net_of_row self.now.names) result }
+        ensures named { (row : NetRow) → result ≡ Some row → row.name < length self.now.names }
     {
         let owner = find_under(&Modules, &self.mods, &self.tops, self.top, module.0)?;
         let key = find_under(&Nets, &self.nets, &self.mods, owner, net.0)?;
