@@ -10,24 +10,24 @@ use Rattle.emh_base.specs.declared.plain.PModule.{PModule}
 use Rattle.emh_base.specs.declared.plain.Plain.{Plain}
 use Rattle.flatten_rules.specs.Lookup.{module_of, port_of}
 use Rattle.flatten_rules.specs.Changes.{port_in, with_module, at_instances, with_conns, port_place}
-use Rattle.flatten_rules.specs.ModuleChanges.{create_module}
+use Rattle.flatten_rules.specs.ModuleChanges.{create_module, delete_module}
 use Rattle.flatten_rules.specs.NetChanges.{with_net, with_port, without_net, create_net, create_port, delete_net, without_port, without_conn, delete_port}
 use Rattle.undo_slots.specs.Slots.{Rows}
 use Rattle.row_chains.specs.declared.link.Link.{Link}
 use Rattle.row_chains.specs.Chains.{ends_with, ends_without}
-use Rattle.row_chains.specs.Rows.{lead_at}
+use Rattle.row_chains.specs.Rows.{lead_at, ends_in}
 use Rattle.row_chains.proofs.KeyLemmas.{same_some, none_some}
 use Rattle.row_chains.proofs.TableLemmas.{get_same, seen-lead_at}
 use Rattle.mod_core.specs.declared.rows.TopRow.{TopRow}
 use Rattle.mod_core.specs.declared.rows.ModRow.{ModRow}
 use Rattle.mod_core.specs.declared.rows.NetRow.{NetRow}
 use Rattle.mod_core.specs.declared.rows.PortRow.{PortRow}
-use Rattle.mod_core.specs.inside.Linked.{net_rows, port_rows, port_holders, ports_from, module_of_row, table_of, Upper, upper}
+use Rattle.mod_core.specs.inside.Linked.{net_rows, net_holders, port_rows, port_holders, port_link, net_of_row, port_on, port_of_row, net_shown, port_shown, ports_from, module_of_row, table_of, Upper, upper}
 use Rattle.mod_core.specs.inside.Good.{IsGood}
-use Rattle.mod_core.specs.inside.Changes.{new_net, ModuleIn, NetIn, NetOut, PortIn, PortOut, joined_rows}
+use Rattle.mod_core.specs.inside.Changes.{new_net, ModuleIn, ModuleOut, NetIn, NetOut, PortIn, PortOut, joined_rows}
 use Rattle.mod_core.specs.Mods.{name_at}
 use Rattle.mod_core.proofs.LookupLemmas.{mod_key, IsModule, found_module, net_key, found_net, net_alone, port_key, IsPort, found_port}
-use Rattle.mod_core.proofs.ModuleLemmas.{tops_in, mods_in as mods_in_table, module_in_table, module_in_good}
+use Rattle.mod_core.proofs.ModuleLemmas.{empty_listed, tops_in, mods_in as mods_in_table, module_in_table, module_in_good, tops_out, mods_out as mods_out_table, module_out_table, module_out_good}
 use Rattle.mod_core.proofs.PortLemmas.{mods_in as port_mods, nets_in as port_nets, port_in_table, port_in_good, mods_out as port_mods_out, nets_out as port_nets_out, without_port_on, port_out_table, port_out_good}
 use Rattle.mod_core.proofs.TwiceLemmas.{twice, no_instances}
 use Rattle.mod_core.proofs.NetLemmas.{mods_in, nets_in, net_in_table, net_in_good, mods_out, nets_out, net_out_table, net_out_good}
@@ -60,12 +60,16 @@ new_row nets nets' key last new is = one (rows.get nets' key) refl
       id_is = same_some r.id new.id (ap (option_map (λ (r : NetRow). r.id)) (sym e) ∙ seen (option_map (λ (r : NetRow). r.id)) (λ r to. refl));
     }
 
+port_there : (net : NetId) (port : Option PortRow) (link : Link) → port_link port ≡ Some link → is_some (option_map (port_on net) port) ≡ true
+port_there net None link e = absurd (none_some link e)
+port_there net (Some port) link e = refl
+
 -- the rows are as they ought to be, and show this table
 pub record Shows (names : List (List ℕ)) (top : ℕ) (tops : Rows TopRow) (mods : Rows ModRow) (nets : Rows NetRow) (M : Plain) : Type 0 where
   pub good : IsGood (length names) top (upper tops mods) nets
   pub table : table_of names top (upper tops mods) nets ≡ M
 
-shows : (names : List (List ℕ)) (top : ℕ) (tops tops' : Rows TopRow) (mods mods' : Rows ModRow) (nets nets' : Rows NetRow) (M : Plain) → tops' ≡ tops → mods' ≡ mods → nets' ≡ nets
+pub shows : (names : List (List ℕ)) (top : ℕ) (tops tops' : Rows TopRow) (mods mods' : Rows ModRow) (nets nets' : Rows NetRow) (M : Plain) → tops' ≡ tops → mods' ≡ mods → nets' ≡ nets
     → IsGood (length names) top (upper tops mods) nets → table_of names top (upper tops mods) nets ≡ M → Shows names top tops' mods' nets' M
 shows names top tops tops' mods mods' nets nets' M e f h good table =
     let F : Rows TopRow → Type 0 = λ t. Shows names top t mods' nets' M in
@@ -92,6 +96,18 @@ module _ (names : List (List ℕ)) (top : ℕ) (tops : Rows TopRow) (mods : Rows
     -- the row of the module that was looked up
     mine_is : (row : ModRow) → rows.get mods owner ≡ Some row → row.id ≡ id
     mine_is row at = ap (λ (r : ModRow). r.id) (same_some row holder.row (sym at ∙ holder.at)) ∙ holder.id_is
+
+    pub module_gone : (tops' : Rows TopRow) (mods' : Rows ModRow) → ((m : PModule) → module_of table id ≡ Some m → (m.nets ≡ []) × (m.ports ≡ []))
+        → ((row : ModRow) → rows.get mods owner ≡ Some row → ModuleOut tops tops' mods mods' owner row) → Shows names top tops' mods' nets (delete_module table id)
+    module_gone tops' mods' empty effect =
+        let m = holder in
+        let none = empty (module_of_row names nets m.row) m.shown in
+        let no_nets = empty_listed net_rows nets (ends_in net_holders mods) g.nets_of (net_shown names nets) (λ k r l at linked. ap (λ o. is_some (option_map (net_of_row names) o)) at) owner m.row.nets (ap (option_map net_holders.ends_of) m.at) none.0 in
+        let no_ports = empty_listed port_rows nets (ends_in port_holders mods) g.ports_of (port_shown nets) (λ k r l at linked. ap (λ o. is_some (option_and_then port_of_row o)) at ∙ port_there r.id r.port l linked) owner m.row.ports (ap (option_map port_holders.ends_of) m.at) none.1 in
+        let u = effect m.row m.at in
+        shows names top (tops_out names top up nets g owner m.row m.at m.mine no_nets no_ports) tops' (mods_out_table names top up nets g owner m.row m.at m.mine no_nets no_ports) mods' nets nets (delete_module table id) u.tops_are u.mods_are refl
+        (module_out_good names top up nets g owner m.row m.at m.mine no_nets no_ports)
+        (module_out_table names top up nets g owner m.row m.at m.mine no_nets no_ports ∙ ap (delete_module table) m.id_is)
 
     module _ (mods' : Rows ModRow) (nets' : Rows NetRow) where
       pub net_made : (row : ModRow) (key name : ℕ) (range : Option Range) → rows.get mods owner ≡ Some row → name < length names → NetIn mods mods' nets nets' owner key row row.next_net name range

@@ -3,7 +3,7 @@ use Rattle.std.proofs.Common.{◌≡◌, ℕ, ◌+◌, min, List, [], ◌∷◌,
 use Rattle.emh_base.specs.declared.plain.Plain.{Plain}
 use Rattle.timeline.specs.Timeline.{Timeline, Moves}
 use Rattle.timeline.specs.Joined.{join, IsJoint}
-use Rattle.timeline.proofs.JoinedLemmas.{IsJoint-undone, IsJoint-redone, IsJoint-committed, Moves-joined, joined-push, length-joined}
+use Rattle.timeline.proofs.JoinedLemmas.{IsJoint-undone, IsJoint-committed, Moves-joined, joined-push, length-joined}
 use Rattle.undo_slots.specs.Slots.{Rows}
 use Rattle.row_chains.specs.Pays.{Pays}
 use Rattle.row_chains.proofs.PaysLemmas.{Pays-join, IsJoint-paid}
@@ -73,22 +73,6 @@ module _ (names : List (List ℕ)) (top : ℕ) (tops : Timeline (Rows TopRow)) (
           moves = Moves-joined (table_of names top) (IsGood (length names) top) up.past up'.past up.future up'.future nets.past nets'.past nets.future nets'.future up.now up'.now nets.now nets'.now up_moves h all.past k.all.future;
         }
 
-    pub record Redone : Type 0 where
-      pub kept : IsKept names top tops' mods' nets'
-      pub moves : Moves whole.future whole.past whole.now whole'.future whole'.past whole'.now
-
-    pub redone : Moves tops.future tops.past tops.now tops'.future tops'.past tops'.now → Moves mods.future mods.past mods.now mods'.future mods'.past mods'.now → Moves nets.future nets.past nets.now nets'.future nets'.past nets'.now
-        → tops' ≡ moved tops tops' → mods' ≡ moved mods mods' → nets' ≡ moved nets nets' → Redone
-    redone e f h ar br cr =
-        let heads = IsJoint-redone Together tops tops' mods mods' k.heads e f ar br in
-        let up_moves = Moves-joined upper Together tops.future tops'.future tops.past tops'.past mods.future mods'.future mods.past mods'.past tops.now tops'.now mods.now mods'.now e f heads.future k.heads.past in
-        let up_rest : up' ≡ moved up up' = (λ i. join upper (ar i) (br i)) in
-        let all = IsJoint-redone (IsGood (length names) top) up up' nets nets' k.all up_moves h up_rest cr in
-        record {
-          kept = record { heads = heads; all = all };
-          moves = Moves-joined (table_of names top) (IsGood (length names) top) up.future up'.future up.past up'.past nets.future nets'.future nets.past nets'.past up.now up'.now nets.now nets'.now up_moves h all.future k.all.past;
-        }
-
     -- after writes in the open record
     pub kept_paid : (a b c : ℕ) → Pays a tops tops' → Pays b mods mods' → Pays c nets nets' → IsGood (length names) top up'.now nets'.now → IsKept names top tops' mods' nets'
     kept_paid a b c p q r good = record {
@@ -115,3 +99,34 @@ module _ (names : List (List ℕ)) (top : ℕ) (tops : Timeline (Rows TopRow)) (
     whole_committed =
         (λ i. join (table_of names top) (up_committed i) (committed nets n))
         ∙ (λ i. record (committed whole (min (min l m) n)) { past = joined-push (table_of names top) (IsGood (length names) top) up.past nets.past (record { value = up.base; writes = up.writes }) (record { value = nets.base; writes = nets.writes }) k.all.past i })
+
+-- past and future are exchanged
+abbrev turned : {X : Type 0} → Timeline X → Timeline X
+turned a = record a { past = a.future; future = a.past }
+
+IsJoint-turned : {X Y : Type 0} (P : X → Y → Type 0) (a : Timeline X) (b : Timeline Y) → IsJoint P a b → IsJoint P (turned a) (turned b)
+IsJoint-turned P a b k = record { opens = k.opens; now = k.now; base = k.base; past = k.future; future = k.past }
+
+kept_turned : (names : List (List ℕ)) (top : ℕ) (tops : Timeline (Rows TopRow)) (mods : Timeline (Rows ModRow)) (nets : Timeline (Rows NetRow)) → IsKept names top tops mods nets → IsKept names top (turned tops) (turned mods) (turned nets)
+kept_turned names top tops mods nets k = record {
+  heads = IsJoint-turned Together tops mods k.heads;
+  all = IsJoint-turned (IsGood (length names) top) (join upper tops mods) nets k.all;
+}
+
+module _ (names : List (List ℕ)) (top : ℕ) (tops : Timeline (Rows TopRow)) (mods : Timeline (Rows ModRow)) (nets : Timeline (Rows NetRow)) (k : IsKept names top tops mods nets) (tops' : Timeline (Rows TopRow)) (mods' : Timeline (Rows ModRow)) (nets' : Timeline (Rows NetRow)) where
+  abbrev before : Timeline Plain
+  before = join (table_of names top) (join upper tops mods) nets
+
+  abbrev after : Timeline Plain
+  after = join (table_of names top) (join upper tops' mods') nets'
+
+  pub record Redone : Type 0 where
+    pub kept : IsKept names top tops' mods' nets'
+    pub moves : Moves before.future before.past before.now after.future after.past after.now
+
+  -- a redo is an undo where past and future are exchanged
+  pub redone : Moves tops.future tops.past tops.now tops'.future tops'.past tops'.now → Moves mods.future mods.past mods.now mods'.future mods'.past mods'.now → Moves nets.future nets.past nets.now nets'.future nets'.past nets'.now
+      → tops' ≡ moved tops tops' → mods' ≡ moved mods mods' → nets' ≡ moved nets nets' → Redone
+  redone e f h ar br cr =
+      let u = undone names top (turned tops) (turned mods) (turned nets) (kept_turned names top tops mods nets k) (turned tops') (turned mods') (turned nets') e f h (λ i. turned (ar i)) (λ i. turned (br i)) (λ i. turned (cr i)) in
+      record { kept = kept_turned names top (turned tops') (turned mods') (turned nets') u.kept; moves = u.moves }

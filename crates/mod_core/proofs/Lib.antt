@@ -8,3 +8,5 @@ pub mod NewLemmas
 pub mod LookupLemmas
 pub mod TwiceLemmas
 pub mod EffectLemmas
+pub mod SetLemmas
+pub mod NameLemmas

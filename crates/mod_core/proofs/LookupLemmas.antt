@@ -6,7 +6,9 @@ use Rattle.emh_base.specs.declared.ids.NetId.{NetId}
 use Rattle.emh_base.specs.declared.plain.PNet.{PNet}
 use Rattle.emh_base.specs.declared.plain.PPort.{PPort}
 use Rattle.emh_base.specs.declared.plain.PModule.{PModule}
+use Rattle.emh_base.specs.declared.plain.Plain.{Plain}
 use Rattle.flatten_rules.specs.Lookup.{module_of, net_of, port_of}
+use Rattle.flatten_rules.specs.Changes.{net_in, port_in}
 use Rattle.undo_slots.specs.Slots.{Rows}
 use Rattle.row_chains.specs.declared.link.Link.{Link}
 use Rattle.row_chains.specs.Rows.{key_in}
@@ -29,7 +31,7 @@ module _ (names : List (List ℕ)) (top : ℕ) (up : Upper) (nets : Rows NetRow)
   abbrev pub mod_key : ModId → Option ℕ
   mod_key id = key_in mod_rows mod_holders (λ row. row.id.0) up.mods up.tops top id.0
 
-  module_of-key : (id : ModId) → module_of (table_of names top up nets) id ≡ option_and_then (module_shown names up.mods nets) (mod_key id)
+  pub module_of-key : (id : ModId) → module_of (table_of names top up nets) id ≡ option_and_then (module_shown names up.mods nets) (mod_key id)
   module_of-key id =
       ap (λ o. module_of (table_from names up.mods nets o) id) g.rooted
       ∙ find-listed mod_rows mod_holders (λ row. row.id.0) up.mods up.tops g.modules top g.root g.rooted (module_shown names up.mods nets) (λ (m : PModule). m.id.0)
@@ -151,3 +153,28 @@ module _ (names : List (List ℕ)) (top : ℕ) (up : Upper) (nets : Rows NetRow)
             let f = found port_rows port_holders (λ (r : NetRow). r.id.0) nets up.mods g.ports_of owner row held net.id.0 k.0 k.1 in
             let s = port_seen k.0 f.row f.link f.at f.linked in
             absurd (none_some s.0 (sym none ∙ port_of-key net.id ∙ ap (option_and_then (port_shown nets)) k.1 ∙ s.1.0))
+
+-- what is there, by the keys that look-ups find
+module _ (names : List (List ℕ)) (top : ℕ) (up : Upper) (nets : Rows NetRow) (g : IsGood (length names) top up nets) (id : ModId) where
+  abbrev table : Plain
+  table = table_of names top up nets
+
+  abbrev key : Option ℕ
+  key = mod_key names top up nets g id
+
+  pub no_module : key ≡ None → module_of table id ≡ None
+  no_module e = module_of-key names top up nets g id ∙ ap (option_and_then (module_shown names up.mods nets)) e
+
+  pub module_there : (owner : ℕ) → key ≡ Some owner → module_of table id ≡ option_map (module_of_row names nets) (rows.get up.mods owner)
+  module_there owner e = module_of-key names top up nets g id ∙ ap (option_and_then (module_shown names up.mods nets)) e
+
+  module _ (net : NetId) where
+    pub net_there : (owner : ℕ) → key ≡ Some owner → net_in table id net ≡ option_and_then (net_shown names nets) (key_in net_rows net_holders (λ r. r.id.0) nets up.mods owner net.0)
+    net_there owner e =
+        let m = found_module names top up nets g id owner e in
+        ap (option_and_then (λ (h : PModule). net_of h net)) m.shown ∙ net_of-key names top up nets g owner m.row m.at net
+
+    pub port_there : (owner : ℕ) → key ≡ Some owner → port_in table id net ≡ option_and_then (port_shown nets) (key_in port_rows port_holders (λ r. r.id.0) nets up.mods owner net.0)
+    port_there owner e =
+        let m = found_module names top up nets g id owner e in
+        ap (option_and_then (λ (h : PModule). port_of h net)) m.shown ∙ port_of-key names top up nets g owner m.row m.at net

@@ -1,18 +1,18 @@
 -- The table after a module has come or gone.
 use Rattle.std.proofs.Common.{◌≡◌, ◌≢◌, ℕ, zero, suc, ◌+◌, ◌<◌, ◌≤◌, ◌==◌, not, filter, Bool, true, false, List, [], ◌∷◌, ◌++◌, length, Option, Some, None, option_map, option_and_then, is_some, refl, sym, ap, subst, ◌∙◌, inl, inr, arith}
 use Rattle.std.proofs.lemmas.Bool.{cases_eq}
-use Rattle.std.specs.List.{filter_map}
+use Rattle.std.specs.List.{filter_map, cons_option}
 use Rattle.std.specs.FinMap as rows
 use Rattle.emh_base.specs.declared.plain.PModule.{PModule}
 use Rattle.flatten_rules.specs.ModuleChanges.{empty_module, create_module, delete_module}
 use Rattle.undo_slots.specs.Slots.{Rows}
 use Rattle.row_chains.specs.declared.link.Link.{Link}
 use Rattle.row_chains.specs.declared.link.Ends.{Ends}
-use Rattle.row_chains.specs.Chains.{AreChains, walk, ends_with, ends_without}
+use Rattle.row_chains.specs.Chains.{first_or, IsChain, AreChains, walk, ends_with, ends_without}
 use Rattle.row_chains.specs.Rows.{ChainRows, ChainHolders, links, listed, lead_at, ends_in}
 use Rattle.row_chains.proofs.KeyLemmas.{same_some, none_some}
 use Rattle.row_chains.proofs.ChainLemmas.{EndsChange, AreChains-owner, AreChains-no_owner}
-use Rattle.row_chains.proofs.TableLemmas.{get_same, get_other, seen-lead_at, seen-follow_at, appended_chains, appended_listed, place, detached_chains, detached_listed}
+use Rattle.row_chains.proofs.TableLemmas.{linked_row, keys-chain, get_same, get_other, seen-lead_at, seen-follow_at, appended_chains, appended_listed, place, detached_chains, detached_listed}
 use Rattle.mod_core.specs.declared.rows.TopRow.{TopRow}
 use Rattle.mod_core.specs.declared.rows.ModRow.{ModRow}
 use Rattle.mod_core.specs.declared.rows.NetRow.{NetRow}
@@ -30,6 +30,27 @@ walk_none row (suc steps) = refl
 -- an empty chain shows nothing
 pub listed_none : {R X : Type 0} (C : ChainRows R) (f : ℕ → Option X) (m : Rows R) → listed C f m None ≡ []
 listed_none C f m = ap (filter_map f) (walk_none (links C m) (rows.len m))
+
+cons_there : {X : Type 0} (o : Option X) (xs : List X) → is_some o ≡ true → cons_option o xs ≡ [] → ⊥
+cons_there None xs live e = never live
+  where
+    never : false ≡ true → ⊥
+    never h = cc
+cons_there (Some x) xs live e = cc
+
+-- a chain that shows nothing, each of whose rows shows something, is empty
+pub empty_listed : {R X : Type 0} (C : ChainRows R) (m : Rows R) (ends_of : ℕ → Option Ends) → AreChains (links C m) ends_of → (f : ℕ → Option X) → ((k : ℕ) (row : R) (link : Link) → rows.get m k ≡ Some row → C.link_of row ≡ Some link → is_some (f k) ≡ true)
+    → (owner : ℕ) (ends : Ends) → ends_of owner ≡ Some ends → listed C f m ends.first ≡ [] → ends.first ≡ None
+empty_listed C m ends_of chains f shows owner ends held none =
+    let c = chains.chain owner ends held in
+    one c.0 c.1 (ap (filter_map f) (sym (keys-chain C m owner ends c.0 c.1)) ∙ none)
+  where
+    one : (ks : List ℕ) → IsChain (links C m) owner ends ks → filter_map f ks ≡ [] → ends.first ≡ None
+    one [] c e = c.begins
+    one (k ∷ ks) c e =
+        let link : Link = record { owner = owner; prev = None; next = first_or ks None } in
+        let r = linked_row C (rows.get m k) link c.linked.0 in
+        absurd (cons_there (f k) (filter_map f ks) (shows k r.0 link r.1.0 r.1.1) e)
 
 at_most : (x : ℕ) → x ≤ x
 at_most x = omega arith

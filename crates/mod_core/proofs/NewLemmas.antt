@@ -1,11 +1,11 @@
 -- The tables at the start.
-use Rattle.std.proofs.Common.{◌≡◌, ℕ, min, List, [], length, Option, Some, None, option_map, option_and_then, false, refl, sym, ap, subst, ◌∙◌, inl, inr, arith}
+use Rattle.std.proofs.Common.{◌≡◌, ℕ, ◌+◌, ◌-◌, min, List, [], ◌∷◌, ◌++◌, length, drop, Option, Some, None, option_map, option_and_then, true, false, refl, sym, ap, subst, ◌∙◌, inl, inr, arith}
 use Rattle.std.proofs.lemmas.Bool.{cases_eq}
 use Rattle.std.specs.Ordering.{nat_cmp}
 use Rattle.std.specs.FinMap as rows
 use Rattle.std.specs.FinMap.{get-empty}
 use Rattle.flatten_rules.specs.Lookup.{no_modules}
-use Rattle.timeline.specs.Timeline.{Timeline, new_timeline}
+use Rattle.timeline.specs.Timeline.{Moment, Timeline, new_timeline}
 use Rattle.timeline.specs.Joined.{join}
 use Rattle.undo_slots.specs.Slots.{Rows}
 use Rattle.row_chains.specs.declared.link.Link.{Link}
@@ -21,6 +21,7 @@ use Rattle.mod_core.specs.inside.Linked.{mod_rows, mod_holders, net_rows, net_ho
 use Rattle.mod_core.specs.inside.Good.{mod_face, net_face, IsGood}
 use Rattle.mod_core.specs.inside.Changes.{empty_chain}
 use Rattle.mod_core.specs.inside.Kept.{IsKept}
+use Rattle.mod_core.proofs.KeptLemmas.{committed}
 use Rattle.mod_core.proofs.ModuleLemmas.{listed_none}
 
 -- chains without rows are empty
@@ -92,12 +93,28 @@ module _ (names : List (List ℕ)) (top : ℕ) where
       ap (table_from names no_mods no_nets) rooted
       ∙ (λ i. record { modules = listed_none mod_rows (module_shown names no_mods no_nets) no_mods i; next_module = 0 })
 
-  module _ (tops : Timeline (Rows TopRow)) (now_is : tops.now ≡ (first_tops top)) (past_is : tops.past ≡ []) (future_is : tops.future ≡ []) (closed : tops.is_open ≡ false) (base_is : tops.base ≡ (first_tops top)) (unwritten : tops.writes ≡ 0) where
+  -- the first row comes in a record that is forgotten
+  module _ (made roomy begun added closed tops : Timeline (Rows TopRow)) (made_is : made ≡ new_timeline rows.empty) (roomy_is : roomy ≡ record made { spare_rows = roomy.spare_rows; spare_writes = roomy.spare_writes })
+      (begun_is : begun ≡ record roomy { is_open = true; base = roomy.now; writes = 0; spare_writes = roomy.spare_writes - 1 })
+      (added_is : added ≡ record begun { now = rows.insert begun.now top first_row; writes = begun.writes + 1; spare_rows = begun.spare_rows - 1; spare_writes = begun.spare_writes - 1 })
+      (closed_is : closed ≡ committed added closed.spare_rows) (tops_is : tops ≡ record closed { past = drop 1 closed.past; spare_rows = tops.spare_rows }) where
     abbrev start : Timeline (Rows TopRow)
     start = record { now = (first_tops top); past = []; future = []; is_open = false; base = (first_tops top); writes = 0; spare_rows = tops.spare_rows; spare_writes = tops.spare_writes }
 
     started : tops ≡ start
-    started = λ i. record { now = now_is i; past = past_is i; future = future_is i; is_open = closed i; base = base_is i; writes = unwritten i; spare_rows = tops.spare_rows; spare_writes = tops.spare_writes }
+    started =
+        let now : Timeline (Rows TopRow) → Rows TopRow = λ s. s.now in
+        let past : Timeline (Rows TopRow) → List (Moment (Rows TopRow)) = λ s. s.past in
+        let first : added.now ≡ first_tops top = ap now added_is ∙ ap (λ (m : Rows TopRow). rows.insert m top first_row) (ap now begun_is ∙ ap now roomy_is ∙ ap now made_is) in
+        let empty : added.past ≡ [] = ap past added_is ∙ ap past begun_is ∙ ap past roomy_is ∙ ap past made_is in
+        let last : Moment (Rows TopRow) = record { value = added.base; writes = added.writes } in
+        let now_is : tops.now ≡ first_tops top = ap now tops_is ∙ ap now closed_is ∙ first in
+        let past_is : tops.past ≡ [] = ap past tops_is ∙ ap (drop 1) (ap past closed_is ∙ ap (λ (p : List (Moment (Rows TopRow))). p ++ last ∷ []) empty) in
+        let future_is : tops.future ≡ [] = ap (λ (s : Timeline (Rows TopRow)). s.future) tops_is ∙ ap (λ (s : Timeline (Rows TopRow)). s.future) closed_is in
+        let is_closed : tops.is_open ≡ false = ap (λ (s : Timeline (Rows TopRow)). s.is_open) tops_is ∙ ap (λ (s : Timeline (Rows TopRow)). s.is_open) closed_is in
+        let base_is : tops.base ≡ first_tops top = ap (λ (s : Timeline (Rows TopRow)). s.base) tops_is ∙ ap (λ (s : Timeline (Rows TopRow)). s.base) closed_is ∙ first in
+        let unwritten : tops.writes ≡ 0 = ap (λ (s : Timeline (Rows TopRow)). s.writes) tops_is ∙ ap (λ (s : Timeline (Rows TopRow)). s.writes) closed_is in
+        λ i. record { now = now_is i; past = past_is i; future = future_is i; is_open = is_closed i; base = base_is i; writes = unwritten i; spare_rows = tops.spare_rows; spare_writes = tops.spare_writes }
 
     pub first_kept : (mods : Timeline (Rows ModRow)) (nets : Timeline (Rows NetRow)) → mods ≡ new_timeline no_mods → nets ≡ new_timeline no_nets → IsKept names top tops mods nets
     first_kept mods nets e f =

@@ -1,8 +1,14 @@
-ghost use Rattle.std.specs.Prelude.{◌≡◌};
+ghost use Rattle.std.specs.Prelude.{◌≡◌, ℕ, ◌≤◌, Some, IsSome, true};
+ghost use Rattle.std.specs.FinMap as map;
+ghost use Rattle.row_chains.specs.Chains.{AreChains};
+ghost use Rattle.row_chains.specs.Rows.{links, ends_in};
+ghost use Rattle.row_chains.specs.Pays.{Pays};
 ghost use Rattle.mod_core.specs.inside.Linked.{mod_rows, mod_holders, net_rows, net_holders, port_rows, port_holders};
+ghost use Rattle.mod_core.specs.inside.Changes.{joined_rows, joined_ends};
 
 use crate::rows::{ModRow, NetRow, PortRow, TopRow};
-use row_chains::{Chain, Ends, Link, Numbered};
+use row_chains::{Chain, Ends, Link, Numbered, detach};
+use undo_slots::Table;
 
 /// The modules of the table, in rising order of id.
 pub(crate) struct Modules;
@@ -167,4 +173,26 @@ impl Numbered<NetRow> for Ports {
     fn number(&self, row: NetRow) -> u32 {
         row.id.0
     }
+}
+
+/// Takes a row that is so linked out of its chain: its neighbours are each other's. The row itself is not written.
+pub(crate) fn leave<R: Copy, O: Copy, C: Chain<R, O>>(
+    chain: &C,
+    rows: &mut Table<R>,
+    holders: &mut Table<O>,
+    link: Link,
+)
+    requires rows_open { rows.old.is_open ≡ true }
+    requires holders_open { holders.old.is_open ≡ true }
+    requires rows_spare { 2 ≤ rows.old.spare_writes }
+    requires holders_spare { 1 ≤ holders.old.spare_writes }
+    requires chains { AreChains (links C.rows rows.old.now) (ends_in C.holders holders.old.now) }
+    requires linked { (key : ℕ) × (links C.rows rows.old.now key ≡ Some link) }
+    ensures rows { rows.new.now ≡ joined_rows C.rows rows.old.now link }
+    ensures holders { holders.new.now ≡ joined_ends C.holders holders.old.now link }
+    ensures live { (k : ℕ) → IsSome (map.get rows.old.now k) → IsSome (map.get rows.new.now k) }
+    ensures rows_pay { Pays 2 rows.old rows.new }
+    ensures holders_pay { Pays 1 holders.old holders.new }
+{
+    detach(chain, rows, holders, link);
 }

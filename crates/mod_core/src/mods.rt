@@ -1,19 +1,24 @@
-ghost use Rattle.std.specs.Prelude.{◌≡◌, ℕ, ◌+◌, ◌-◌, ◌<◌, ◌≤◌, [], ◌∷◌, ◌++◌, length, IsSome, OnOk, IfOk, IsSomeAnd, true, false, drop, Some, None};
+ghost use Rattle.std.specs.Prelude.{◌≡◌, ℕ, ◌+◌, ◌-◌, ◌<◌, ◌≤◌, [], ◌∷◌, ◌++◌, length, position, slice_get, bytes_eq, is_some, option_map, option_copied, option_and_then, IsSome, OnOk, OnErr, IfOk, IsSomeAnd, true, false, drop, Some, None};
 ghost use Rattle.timeline.specs.Timeline.{Moves, new_timeline};
 ghost use Rattle.row_chains.specs.Pays.{Pays};
+ghost use Rattle.emh_base.specs.Pool.{with_name, number_in};
 ghost use Rattle.emh_base.specs.declared.plain.PModule.{PModule};
 ghost use Rattle.flatten_rules.specs.Lookup.{module_of, no_modules};
 ghost use Rattle.flatten_rules.specs.Changes.{net_in, port_in};
-ghost use Rattle.flatten_rules.specs.ModuleChanges.{create_module};
-ghost use Rattle.flatten_rules.specs.NetChanges.{create_net, delete_net, create_port, delete_port};
+ghost use Rattle.flatten_rules.specs.ModuleChanges.{create_module, delete_module, rename_module, with_lock};
+ghost use Rattle.flatten_rules.specs.NetChanges.{create_net, delete_net, create_port, delete_port, rename_net};
+ghost use Rattle.undo_slots.specs.Slots.{Rows};
+ghost use Rattle.mod_core.specs.declared.rows.ModRow.{ModRow};
+ghost use Rattle.mod_core.specs.declared.rows.NetRow.{NetRow};
+ghost use Rattle.mod_core.specs.inside.Linked.{module_of_row, net_of_row, port_of_row};
 ghost use Rattle.mod_core.specs.Mods.{name_at};
 
 use crate::chains::{Modules, Nets, Ports};
-use crate::modules::module_in;
+use crate::modules::{module_in, module_out};
 use crate::nets::{net_in, net_out};
 use crate::ports::{port_in, port_out};
 use crate::rows::{ModRow, NetRow, TopRow};
-use emh_base::{Dir, ModId, NetId, NoMemory, Pool, Range};
+use emh_base::{Dir, ModId, Name, NetId, NoMemory, Pool, Range};
 use row_chains::{Ends, find_under};
 use std::alloc::Global;
 use std::marker::Model;
@@ -90,6 +95,132 @@ impl Mods {
         } else {
             Err(NoMemory)
         }
+    }
+
+    /// The number of a name. A name that is there keeps its number, a new one gets the next number. The table and what
+    /// is remembered stay. After want of memory the names are as before.
+    pub fn number(&mut self, name: Name) -> Result<usize, NoMemory>
+        ensures number { IfOk result (λ number. number ≡ number_in self.old.names name) }
+        ensures names { OnOk result (self.new.names ≡ with_name self.old.names name) }
+        ensures err { OnErr result (self.new.names ≡ self.old.names) }
+        ensures table { self.new.table ≡ self.old.table }
+    {
+        self.names.number(name)
+    }
+
+    /// The number of a name, or none where it isn't there. It takes no memory.
+    pub fn find(&self, name: &[u8]) -> Option<usize>
+        ensures { result ≡ position (bytes_eq name.now) self.now.names }
+    {
+        self.names.find(name)
+    }
+
+    /// The name of a number. It takes no memory.
+    pub fn at(&self, number: usize) -> &Name
+        requires { number < length self.now.names }
+        ensures { slice_get self.now.names number ≡ Some result.now }
+    {
+        self.names.at(number)
+    }
+
+    /// Whether a module is there.
+    pub fn is_module(&self, id: ModId) -> bool
+        ensures { result ≡ is_some (module_of self.now.table.now id) }
+    {
+        self.module_row(id).is_some()
+    }
+
+    /// Whether a module is a leaf; none where it isn't there.
+    pub fn is_leaf(&self, id: ModId) -> Option<bool>
+        ensures { result ≡ option_map (λ m. m.leaf) (module_of self.now.table.now id) }
+    {
+        Some(self.module_row(id)?.leaf)
+    }
+
+    /// Whether a module is locked; none where it isn't there.
+    pub fn is_locked(&self, id: ModId) -> Option<bool>
+        ensures { result ≡ option_map (λ m. m.locked) (module_of self.now.table.now id) }
+    {
+        Some(self.module_row(id)?.locked)
+    }
+
+    /// The name of a module; none where it isn't there.
+    pub fn module_name(&self, id: ModId) -> Option<&Name>
+        ensures { option_copied result
+            ≡ option_map (λ m. m.name) (module_of self.now.table.now id) }
+    {
+        let row = self.module_row(id)?;
+        Some(self.at(row.name))
+    }
+
+    /// The id that the next net of a module gets; none where the module isn't there.
+    pub fn next_net(&self, id: ModId) -> Option<u32>
+        ensures { result ≡ option_map (λ m. m.next_net) (module_of self.now.table.now id) }
+    {
+        Some(self.module_row(id)?.next_net)
+    }
+
+    /// The id that the next module gets.
+    pub fn next_module(&self) -> u32
+        ensures { result ≡ self.now.table.now.next_module }
+    {
+        self.tops.get(self.top).unwrap().next_module
+    }
+
+    /// The name of a net, which is that of the port on it; none where it isn't there.
+    pub fn net_name(&self, module: ModId, net: NetId) -> Option<&Name>
+        ensures { option_copied result
+            ≡ option_map (λ there. there.name) (net_in self.now.table.now «module» net) }
+    {
+        let row = self.net_row(module, net)?;
+        Some(self.at(row.name))
+    }
+
+    /// The range of a net, which has one bit where it has none; none where the net isn't there.
+    pub fn net_range(&self, module: ModId, net: NetId) -> Option<Option<Range>>
+        ensures { result ≡ option_map (λ there. there.range)
+            (net_in self.now.table.now «module» net) }
+    {
+        Some(self.net_row(module, net)?.range)
+    }
+
+    /// The direction of a port, which is named by its inner net; none where it isn't there.
+    pub fn port_dir(&self, module: ModId, port: NetId) -> Option<Dir>
+        ensures { result ≡ option_map (λ there. there.dir)
+            (port_in self.now.table.now «module» port) }
+    {
+        Some(self.port_row(module, port)?.port?.dir)
+    }
+
+    /// The row of a module.
+    fn module_row(&self, id: ModId) -> Option<ModRow>
+        ensures shown { (nets : Rows NetRow) × (module_of self.now.table.now id
+            ≡ option_map (module_of_row self.now.names nets) result) }
+        ensures named { (row : ModRow) → result ≡ Some row → row.name < length self.now.names }
+    {
+        let key = find_under(&Modules, &self.mods, &self.tops, self.top, id.0)?;
+        self.mods.get(key)
+    }
+
+    /// The row of a net.
+    fn net_row(&self, module: ModId, net: NetId) -> Option<NetRow>
+        ensures shown { net_in self.now.table.now «module» net
+            ≡ option_map (net_of_row self.now.names) result }
+        ensures named { (row : NetRow) → result ≡ Some row → row.name < length self.now.names }
+    {
+        let owner = find_under(&Modules, &self.mods, &self.tops, self.top, module.0)?;
+        let key = find_under(&Nets, &self.nets, &self.mods, owner, net.0)?;
+        self.nets.get(key)
+    }
+
+    /// The row of a port's net.
+    fn port_row(&self, module: ModId, port: NetId) -> Option<NetRow>
+        ensures { port_in self.now.table.now «module» port
+            ≡ option_and_then port_of_row result }
+    {
+        let owner = find_under(&Modules, &self.mods, &self.tops, self.top, module.0)?;
+        let key = find_under(&Ports, &self.nets, &self.mods, owner, port.0)?;
+        self.nets.get(key)
     }
 
     /// Opens a record. Condition: none is open, and there is a spare write.
@@ -231,6 +362,54 @@ impl Mods {
         module_in(&mut self.tops, &mut self.mods, self.top, name);
     }
 
+    /// Takes a module without nets out of the table. At most four writes. Condition: a record is open, there are spare
+    /// writes, and the module is there, with no nets and no ports.
+    pub fn delete_module(&mut self, module: ModId)
+        requires open { self.old.table.is_open ≡ true }
+        requires spare { 3 ≤ self.old.table.spare_writes }
+        requires live { IsSome (module_of self.old.table.now «module») }
+        requires empty { (m : PModule) → module_of self.old.table.now «module» ≡ Some m
+            → (m.nets ≡ []) × (m.ports ≡ []) }
+        ensures names { self.new.names ≡ self.old.names }
+        ensures table { self.new.table.now ≡ delete_module self.old.table.now «module» }
+        ensures pays { Pays 4 self.old.table self.new.table }
+    {
+        let key = find_under(&Modules, &self.mods, &self.tops, self.top, module.0).unwrap();
+        module_out(&mut self.tops, &mut self.mods, key);
+    }
+
+    /// Gives a module another name. At most one write. Condition: a record is open, there is a spare write, the name is
+    /// the pool's, and the module is there.
+    pub fn rename_module(&mut self, module: ModId, name: usize)
+        requires open { self.old.table.is_open ≡ true }
+        requires spare { 1 ≤ self.old.table.spare_writes }
+        requires name { name < length self.old.names }
+        requires live { IsSome (module_of self.old.table.now «module») }
+        ensures names { self.new.names ≡ self.old.names }
+        ensures table { self.new.table.now
+            ≡ rename_module self.old.table.now «module» (name_at self.old.names name) }
+        ensures pays { Pays 1 self.old.table self.new.table }
+    {
+        let key = find_under(&Modules, &self.mods, &self.tops, self.top, module.0).unwrap();
+        let row = self.mods.get(key).unwrap();
+        self.mods.set(key, ModRow { name, ..row });
+    }
+
+    /// Locks a module, or unlocks it. At most one write. Condition: a record is open, there is a spare write, and the
+    /// module is there.
+    pub fn with_lock(&mut self, module: ModId, locked: bool)
+        requires open { self.old.table.is_open ≡ true }
+        requires spare { 1 ≤ self.old.table.spare_writes }
+        requires live { IsSome (module_of self.old.table.now «module») }
+        ensures names { self.new.names ≡ self.old.names }
+        ensures table { self.new.table.now ≡ with_lock self.old.table.now «module» locked }
+        ensures pays { Pays 1 self.old.table self.new.table }
+    {
+        let key = find_under(&Modules, &self.mods, &self.tops, self.top, module.0).unwrap();
+        let row = self.mods.get(key).unwrap();
+        self.mods.set(key, ModRow { locked, ..row });
+    }
+
     /// Puts a new net last in a module. Its id is the module's counter. At most three writes. Condition: a record is
     /// open, there are spare rows and writes, the name is the pool's, the module is there, and its counter has not come
     /// to its end.
@@ -267,6 +446,24 @@ impl Mods {
         let owner = find_under(&Modules, &self.mods, &self.tops, self.top, module.0).unwrap();
         let key = find_under(&Nets, &self.nets, &self.mods, owner, net.0).unwrap();
         net_out(&mut self.mods, &mut self.nets, key);
+    }
+
+    /// Gives a net another name, and the port on it. At most one write. Condition: a record is open, there is a spare
+    /// write, the name is the pool's, and the net is there.
+    pub fn rename_net(&mut self, module: ModId, net: NetId, name: usize)
+        requires open { self.old.table.is_open ≡ true }
+        requires spare { 1 ≤ self.old.table.spare_writes }
+        requires name { name < length self.old.names }
+        requires live { IsSome (net_in self.old.table.now «module» net) }
+        ensures names { self.new.names ≡ self.old.names }
+        ensures table { self.new.table.now
+            ≡ rename_net self.old.table.now «module» net (name_at self.old.names name) }
+        ensures pays { Pays 1 self.old.table self.new.table }
+    {
+        let owner = find_under(&Modules, &self.mods, &self.tops, self.top, module.0).unwrap();
+        let key = find_under(&Nets, &self.nets, &self.mods, owner, net.0).unwrap();
+        let row = self.nets.get(key).unwrap();
+        self.nets.set(key, NetRow { name, ..row });
     }
 
     /// Puts a new net and a port on it last in a module. At most six writes. Condition: as for `create_net`.

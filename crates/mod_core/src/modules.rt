@@ -8,10 +8,10 @@ ghost use Rattle.mod_core.specs.declared.rows.ModRow.{ModRow};
 ghost use Rattle.mod_core.specs.inside.Linked.{mod_rows, mod_holders};
 ghost use Rattle.mod_core.specs.inside.Changes.{ModuleIn, ModuleOut};
 
-use crate::chains::Modules;
+use crate::chains::{Modules, leave};
 use crate::rows::{ModRow, TopRow};
 use emh_base::ModId;
-use row_chains::{Ends, Link, append, detach};
+use row_chains::{Ends, Link, append};
 use undo_slots::Table;
 
 /// Puts a new module without content last in the table, at most three writes. The counter is raised.
@@ -77,6 +77,6 @@ pub(crate) fn module_out(tops: &mut Table<TopRow>, mods: &mut Table<ModRow>, key
     ensures mods_pay { Pays 3 mods.old mods.new }
 {
     let row = mods.get(key).unwrap();
-    detach(&Modules, mods, tops, row.link);
+    leave(&Modules, mods, tops, row.link);
     mods.remove(key);
 }

@@ -8,10 +8,10 @@ ghost use Rattle.mod_core.specs.declared.rows.NetRow.{NetRow};
 ghost use Rattle.mod_core.specs.inside.Linked.{net_rows, net_holders};
 ghost use Rattle.mod_core.specs.inside.Changes.{NetIn, NetOut};
 
-use crate::chains::Nets;
+use crate::chains::{Nets, leave};
 use crate::rows::{ModRow, NetRow};
 use emh_base::{NetId, Range};
-use row_chains::{Link, append, detach};
+use row_chains::{Link, append};
 use undo_slots::Table;
 
 /// Puts a new net last in a module, at most three writes. The module's counter is raised to one above its id.
@@ -71,6 +71,6 @@ pub(crate) fn net_out(mods: &mut Table<ModRow>, nets: &mut Table<NetRow>, key: u
     ensures nets_pay { Pays 3 nets.old nets.new }
 {
     let row = nets.get(key).unwrap();
-    detach(&Nets, nets, mods, row.link);
+    leave(&Nets, nets, mods, row.link);
     nets.remove(key);
 }

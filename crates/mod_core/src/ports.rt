@@ -9,10 +9,10 @@ ghost use Rattle.mod_core.specs.declared.rows.PortRow.{PortRow};
 ghost use Rattle.mod_core.specs.inside.Linked.{port_rows, port_holders};
 ghost use Rattle.mod_core.specs.inside.Changes.{PortIn, PortOut};
 
-use crate::chains::Ports;
+use crate::chains::{Ports, leave};
 use crate::rows::{ModRow, NetRow, PortRow};
 use emh_base::Dir;
-use row_chains::{Link, append, detach};
+use row_chains::{Link, append};
 use undo_slots::Table;
 
 /// Makes a net that is no port the last port of a module, at most three writes.
@@ -75,6 +75,6 @@ pub(crate) fn port_out(
     ensures mods_pay { Pays 1 mods.old mods.new }
     ensures nets_pay { Pays 3 nets.old nets.new }
 {
-    detach(&Ports, nets, mods, port.link);
+    leave(&Ports, nets, mods, port.link);
     nets.set(key, NetRow { port: None, ..net });
 }
