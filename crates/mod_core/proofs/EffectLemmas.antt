@@ -1,5 +1,5 @@
 -- What the methods do to the table.
-use Rattle.std.proofs.Common.{◌≡◌, ℕ, ◌+◌, ◌-◌, ◌<◌, ◌≤◌, List, [], ◌∷◌, ◌++◌, length, Option, Some, None, option_map, option_and_then, is_some, true, refl, sym, ap, subst, ◌∙◌, arith}
+use Rattle.std.proofs.Common.{◌≡◌, ◌↔◌, ℕ, ◌+◌, ◌-◌, ◌<◌, ◌≤◌, List, [], ◌∷◌, ◌++◌, length, Option, Some, None, option_map, option_and_then, is_some, true, refl, sym, ap, subst, ◌∙◌, arith}
 use Rattle.std.specs.FinMap as rows
 use Rattle.emh_base.specs.declared.ids.ModId.{ModId}
 use Rattle.emh_base.specs.declared.ids.NetId.{NetId}
@@ -15,19 +15,19 @@ use Rattle.flatten_rules.specs.NetChanges.{with_net, with_port, without_net, cre
 use Rattle.undo_slots.specs.Slots.{Rows}
 use Rattle.row_chains.specs.declared.link.Link.{Link}
 use Rattle.row_chains.specs.Chains.{ends_with, ends_without}
-use Rattle.row_chains.specs.Rows.{lead_at, ends_in}
+use Rattle.row_chains.specs.Rows.{lead_at, listed, ends_in}
 use Rattle.row_chains.proofs.KeyLemmas.{same_some, none_some}
 use Rattle.row_chains.proofs.TableLemmas.{get_same, seen-lead_at}
 use Rattle.mod_core.specs.declared.rows.TopRow.{TopRow}
 use Rattle.mod_core.specs.declared.rows.ModRow.{ModRow}
 use Rattle.mod_core.specs.declared.rows.NetRow.{NetRow}
 use Rattle.mod_core.specs.declared.rows.PortRow.{PortRow}
-use Rattle.mod_core.specs.inside.Linked.{net_rows, net_holders, port_rows, port_holders, port_link, net_of_row, port_on, port_of_row, net_shown, port_shown, ports_from, module_of_row, table_of, Upper, upper}
+use Rattle.mod_core.specs.inside.Linked.{net_rows, net_holders, port_rows, port_holders, port_link, net_of_row, port_on, port_of_row, net_shown, port_shown, nets_from, ports_from, module_of_row, table_of, Upper, upper}
 use Rattle.mod_core.specs.inside.Good.{IsGood}
 use Rattle.mod_core.specs.inside.Changes.{new_net, ModuleIn, ModuleOut, NetIn, NetOut, PortIn, PortOut, joined_rows}
 use Rattle.mod_core.specs.Mods.{name_at}
 use Rattle.mod_core.proofs.LookupLemmas.{mod_key, IsModule, found_module, net_key, found_net, net_alone, port_key, IsPort, found_port}
-use Rattle.mod_core.proofs.ModuleLemmas.{empty_listed, tops_in, mods_in as mods_in_table, module_in_table, module_in_good, tops_out, mods_out as mods_out_table, module_out_table, module_out_good}
+use Rattle.mod_core.proofs.ModuleLemmas.{empty_listed, listed_none, tops_in, mods_in as mods_in_table, module_in_table, module_in_good, tops_out, mods_out as mods_out_table, module_out_table, module_out_good}
 use Rattle.mod_core.proofs.PortLemmas.{mods_in as port_mods, nets_in as port_nets, port_in_table, port_in_good, mods_out as port_mods_out, nets_out as port_nets_out, without_port_on, port_out_table, port_out_good}
 use Rattle.mod_core.proofs.TwiceLemmas.{twice, no_instances}
 use Rattle.mod_core.proofs.NetLemmas.{mods_in, nets_in, net_in_table, net_in_good, mods_out, nets_out, net_out_table, net_out_good}
@@ -97,13 +97,42 @@ module _ (names : List (List ℕ)) (top : ℕ) (tops : Rows TopRow) (mods : Rows
     mine_is : (row : ModRow) → rows.get mods owner ≡ Some row → row.id ≡ id
     mine_is row at = ap (λ (r : ModRow). r.id) (same_some row holder.row (sym at ∙ holder.at)) ∙ holder.id_is
 
+    -- a module shows no nets and no ports where its row has none
+
+    pub bare_row : (nets_from names nets holder.row.nets ≡ []) × (ports_from nets holder.row.ports ≡ []) → (holder.row.nets.first ≡ None) × (holder.row.ports.first ≡ None)
+    bare_row none =
+        let m = holder in (
+          empty_listed net_rows nets (ends_in net_holders mods) g.nets_of (net_shown names nets) (λ k r l at linked. ap (λ o. is_some (option_map (net_of_row names) o)) at) owner m.row.nets (ap (option_map net_holders.ends_of) m.at) none.0,
+          empty_listed port_rows nets (ends_in port_holders mods) g.ports_of (port_shown nets) (λ k r l at linked. ap (λ o. is_some (option_and_then port_of_row o)) at ∙ port_there r.id r.port l linked) owner m.row.ports (ap (option_map port_holders.ends_of) m.at) none.1,
+        )
+
+    pub bare_module : (row : ModRow) → rows.get mods owner ≡ Some row
+        → ((row.nets.first ≡ None) × (row.ports.first ≡ None)) ↔ ((m : PModule) × ((module_of table id ≡ Some m) × ((m.nets ≡ []) × (m.ports ≡ []))))
+    bare_module row at =
+        let same : row ≡ holder.row = same_some row holder.row (sym at ∙ holder.at) in (
+          λ none. (
+            module_of_row names nets holder.row,
+            (
+              holder.shown,
+              (
+                ap (λ e. listed net_rows (net_shown names nets) nets e) (ap (λ (r : ModRow). r.nets.first) (sym same) ∙ none.0) ∙ listed_none net_rows (net_shown names nets) nets,
+                ap (λ e. listed port_rows (port_shown nets) nets e) (ap (λ (r : ModRow). r.ports.first) (sym same) ∙ none.1) ∙ listed_none port_rows (port_shown nets) nets,
+              ),
+            ),
+          ),
+          λ bare.
+              let is : module_of_row names nets holder.row ≡ bare.0 = same_some (module_of_row names nets holder.row) bare.0 (sym holder.shown ∙ bare.1.0) in
+              let none = bare_row (ap (λ (m : PModule). m.nets) is ∙ bare.1.1.0, ap (λ (m : PModule). m.ports) is ∙ bare.1.1.1) in
+              (ap (λ (r : ModRow). r.nets.first) same ∙ none.0, ap (λ (r : ModRow). r.ports.first) same ∙ none.1),
+        )
+
     pub module_gone : (tops' : Rows TopRow) (mods' : Rows ModRow) → ((m : PModule) → module_of table id ≡ Some m → (m.nets ≡ []) × (m.ports ≡ []))
         → ((row : ModRow) → rows.get mods owner ≡ Some row → ModuleOut tops tops' mods mods' owner row) → Shows names top tops' mods' nets (delete_module table id)
     module_gone tops' mods' empty effect =
         let m = holder in
-        let none = empty (module_of_row names nets m.row) m.shown in
-        let no_nets = empty_listed net_rows nets (ends_in net_holders mods) g.nets_of (net_shown names nets) (λ k r l at linked. ap (λ o. is_some (option_map (net_of_row names) o)) at) owner m.row.nets (ap (option_map net_holders.ends_of) m.at) none.0 in
-        let no_ports = empty_listed port_rows nets (ends_in port_holders mods) g.ports_of (port_shown nets) (λ k r l at linked. ap (λ o. is_some (option_and_then port_of_row o)) at ∙ port_there r.id r.port l linked) owner m.row.ports (ap (option_map port_holders.ends_of) m.at) none.1 in
+        let none = bare_row (empty (module_of_row names nets m.row) m.shown) in
+        let no_nets = none.0 in
+        let no_ports = none.1 in
         let u = effect m.row m.at in
         shows names top (tops_out names top up nets g owner m.row m.at m.mine no_nets no_ports) tops' (mods_out_table names top up nets g owner m.row m.at m.mine no_nets no_ports) mods' nets nets (delete_module table id) u.tops_are u.mods_are refl
         (module_out_good names top up nets g owner m.row m.at m.mine no_nets no_ports)

@@ -1,4 +1,4 @@
-ghost use Rattle.std.specs.Prelude.{◌≡◌, ℕ, ◌+◌, ◌-◌, ◌<◌, ◌≤◌, [], ◌∷◌, ◌++◌, length, position, slice_get, bytes_eq, is_some, option_map, option_copied, option_and_then, IsSome, OnOk, OnErr, IfOk, IsSomeAnd, true, false, drop, Some, None};
+ghost use Rattle.std.specs.Prelude.{◌≡◌, ◌↔◌, ℕ, ◌+◌, ◌-◌, ◌<◌, ◌≤◌, [], ◌∷◌, ◌++◌, length, position, slice_get, bytes_eq, is_some, option_map, option_copied, option_and_then, IsSome, IsTrue, OnOk, OnErr, IfOk, IsSomeAnd, true, false, drop, Some, None};
 ghost use Rattle.timeline.specs.Timeline.{Moves, new_timeline};
 ghost use Rattle.row_chains.specs.Pays.{Pays};
 ghost use Rattle.emh_base.specs.Pool.{with_name, number_in};
@@ -142,6 +142,20 @@ impl Mods {
         ensures { result ≡ option_map (λ m. m.locked) (module_of self.now.table.now id) }
     {
         Some(self.module_row(id)?.locked)
+    }
+
+    /// Whether a module is there and has no nets and no ports.
+    pub fn is_empty_module(&self, id: ModId) -> bool
+        ensures { IsTrue result ↔ ((m : PModule) × ((module_of self.now.table.now id ≡ Some m)
+            × ((m.nets ≡ []) × (m.ports ≡ [])))) }
+    {
+        match find_under(&Modules, &self.mods, &self.tops, self.top, id.0) {
+            Some(key) => {
+                let row = self.mods.get(key).unwrap();
+                row.nets.first.is_none() && row.ports.first.is_none()
+            }
+            None => false,
+        }
     }
 
     /// The name of a module; none where it isn't there.
@@ -362,8 +376,8 @@ impl Mods {
         module_in(&mut self.tops, &mut self.mods, self.top, name);
     }
 
-    /// Takes a module without nets out of the table. At most four writes. Condition: a record is open, there are spare
-    /// writes, and the module is there, with no nets and no ports.
+    /// Takes a module without content out of the table. At most four writes. Condition: a record is open, there are
+    /// spare writes, and the module is there, with no nets and no ports, as `is_empty_module` tells.
     pub fn delete_module(&mut self, module: ModId)
         requires open { self.old.table.is_open ≡ true }
         requires spare { 3 ≤ self.old.table.spare_writes }
