@@ -1,5 +1,5 @@
 -- Names with values: what is found after one more, and where.
-use Rattle.std.proofs.Common.{arith, ◌≡◌, ℕ, suc, ◌+◌, ◌-◌, ◌<◌, ◌≤◌, [], ◌∷◌, ◌++◌, None, Some, Option, Bool, true, false, List, Bor, take, length, slice_get, is_some, refl, sym, ◌∙◌, ap, cond, append_assoc}
+use Rattle.std.proofs.Common.{arith, ◌≡◌, ℕ, suc, ◌+◌, ◌-◌, ◌<◌, ◌≤◌, [], ◌∷◌, ◌++◌, None, Some, Option, Bool, true, false, List, Bor, length, slice_get, is_some, refl, sym, ◌∙◌, ap, cond, append_assoc}
 use Rattle.std.specs.List.{position, position_from}
 use Rattle.std.specs.Option.{option_map}
 use Rattle.std.specs.Map.{lookup}
@@ -198,13 +198,3 @@ place-new {V} es fs e new =
 pub item-after : {X : Type 0} (xs ys : List X) (x : X) → slice_get (xs ++ x ∷ ys) (length xs) ≡ Some x
 item-after [] ys x = refl
 item-after (y ∷ xs) ys x = item-after xs ys x
-
--- an item is pushed and taken back
-pub pushed-popped : {X : Type 0} (es fs gs : List X) (x : X) (n : ℕ) → fs ≡ es ++ x ∷ [] → n ≡ length es + 1 → gs ≡ take (n - 1) fs → gs ≡ es
-pushed-popped {X} es fs gs x n made len rest =
-    let all : n - 1 ≡ length es = omega (arith, len) in
-    rest ∙ (rw (all, made) (take-all es))
-  where
-    take-all : (es : List X) → take (length es) (es ++ x ∷ []) ≡ es
-    take-all [] = refl
-    take-all (e ∷ es) = ap (λ es. e ∷ es) (take-all es)

@@ -167,13 +167,13 @@ fn slots_for(entries: usize) -> usize
     entries.saturating_mul(4).saturating_add(4)
 }
 
-/// The slot of a name, where there are so many.
+/// The slot of a name, where there are so many: it stands among them where the name's number stands among all numbers.
 fn slot_of(count: usize, name: &[u8]) -> usize
     requires { 0 < count }
     ensures value { result ≡ slot_of count name.now }
     ensures within { result < count }
 {
-    (number_of(name) % count as u64) as usize
+    (u128::from(number_of(name)) * count as u128 / (1 << 64)) as usize
 }
 
 /// The number of a name: each byte is added, and the sum is multiplied, of which the lowest 64 bits are kept.
