@@ -74,12 +74,12 @@ const TABLES: &[(&[u8], &str)] = &[
         b"module b(input i); c u(i); endmodule module a(input i); b u(i); endmodule module c(input i); endmodule",
         "3 b (0 input) [0 i] {0 u:5(0.0)} 4 a (0 input) [0 i] {0 u:3(0.0)} 5 c (0 input) [0 i] {}",
     ),
-    // the last three names have one number in a map of places
+    // the last three names have one number, and so one slot in a map of places
     (
-        b"module t(); wire a, b, c, d, e, f, g, h, ikZiiiiiiZki, jehZoiioZhej, k_vKuiiuKv_k; \
-INV u(jehZoiioZhej, k_vKuiiuKv_k), v(ikZiiiiiiZki, h); endmodule",
-        "3 t () [0 a, 1 b, 2 c, 3 d, 4 e, 5 f, 6 g, 7 h, 8 ikZiiiiiiZki, 9 jehZoiioZhej, 10 k_vKuiiuKv_k] \
-{0 u:0(9.0, 10.0), 1 v:0(8.0, 7.0)}",
+        b"module t(); wire a, b, c, d, e, f, g, h, aacauaaapaaaebagagacasmq, ebagagacasmqaacauaaapaaa, \
+ebagagacasmqebagagacasmq; INV u(ebagagacasmqaacauaaapaaa, ebagagacasmqebagagacasmq), v(aacauaaapaaaebagagacasmq, h); endmodule",
+        "3 t () [0 a, 1 b, 2 c, 3 d, 4 e, 5 f, 6 g, 7 h, 8 aacauaaapaaaebagagacasmq, 9 ebagagacasmqaacauaaapaaa, \
+10 ebagagacasmqebagagacasmq] {0 u:0(9.0, 10.0), 1 v:0(8.0, 7.0)}",
     ),
 ];
 

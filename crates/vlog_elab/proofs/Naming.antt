@@ -1,5 +1,5 @@
 -- Names with values: what is found after one more, and where.
-use Rattle.std.proofs.Common.{arith, ◌≡◌, ℕ, suc, ◌+◌, ◌-◌, ◌<◌, ◌≤◌, [], ◌∷◌, ◌++◌, None, Some, Option, Bool, true, false, List, Bor, take, length, slice_get, is_some, get_or, unwrap_or, refl, sym, ◌∙◌, ap, cond, append_assoc}
+use Rattle.std.proofs.Common.{arith, ◌≡◌, ℕ, suc, ◌+◌, ◌-◌, ◌<◌, ◌≤◌, [], ◌∷◌, ◌++◌, None, Some, Option, Bool, true, false, List, Bor, length, slice_get, is_some, refl, sym, ◌∙◌, ap, cond, append_assoc}
 use Rattle.std.specs.List.{position, position_from}
 use Rattle.std.specs.Option.{option_map}
 use Rattle.std.specs.Map.{lookup}
@@ -8,7 +8,7 @@ use Rattle.std.proofs.lemmas.Slice.Eq.{bytes_eq-Decides}
 use Rattle.std.proofs.lemmas.Grind.{common_steps}
 use Rattle.std.specs.Prelude.{◌||◌, not, if◌then◌else◌}
 use Rattle.std.proofs.Math.Bool.{or_assoc}
-use Rattle.std.proofs.lemmas.List.{length-map, append-nil, take_more}
+use Rattle.std.proofs.lemmas.List.{append-nil}
 use Rattle.std.proofs.lemmas.Iterator.Adapters.{position_from-zero}
 use Rattle.std.proofs.lemmas.Bool.Decides.{same_from_decides}
 use Rattle.std.specs.Bool.{Decides}
@@ -16,7 +16,7 @@ use Rattle.flatten_rules.specs.Check.{each_after}
 use Rattle.flatten_rules.proofs.FirstBroken.{each_after-append}
 use Rattle.vlog_elab.specs.Named.{place_of, named, is_there, firsts}
 use Rattle.vlog_elab.specs.inside.Walks.{with_new}
-use Rattle.vlog_elab.specs.inside.Agree.{texts, Agrees}
+use Rattle.vlog_elab.specs.inside.Agree.{texts}
 
 -- the place of the first that passes, after one more at the end
 pub position_from-push : {X : Type 0} (t : X → Bool) (n : ℕ) (xs : List X) (x : X)
@@ -64,11 +64,11 @@ bytes_eq-sym a b = same_from_decides _ _ (bytes_eq-Decides a b) (decides_sym (by
     decides_sym : {r : Bool} → Decides r (b ≡ a) → Decides r (a ≡ b)
     decides_sym d = grind arith
 
-place-found : (o : Option ℕ) (a : Option ℕ) → is_some o ≡ true → cond (is_some o) o a ≡ o
+pub place-found : (o : Option ℕ) (a : Option ℕ) → is_some o ≡ true → cond (is_some o) o a ≡ o
 place-found (Some x) a h = refl
 place-found None a h = absurd (cc h)
 
-place-kept : (o : Option ℕ) → cond (is_some o) o None ≡ o
+pub place-kept : (o : Option ℕ) → cond (is_some o) o None ≡ o
 place-kept (Some x) = refl
 place-kept None = refl
 
@@ -77,87 +77,6 @@ bytes_eq-refl a = grind (arith, bytes_eq-Decides)
 
 pub same_name : (a b : List ℕ) → bytes_eq a b ≡ true → a ≡ b
 same_name a b h = grind (arith, bytes_eq-Decides)
-
--- what has a place keeps it
-pub place-push_again : {V : Type 0} (es : List (List ℕ × V)) (e : List ℕ × V) (q : List ℕ) → is_there es e.0 ≡ true → place_of (es ++ e ∷ []) q ≡ place_of es q
-place-push_again {V} es e q there = position_from-push (λ (e : List ℕ × V). bytes_eq q e.0) 0 es e ∙ at_b (bytes_eq q e.0) refl
-  where
-    at_b : (b : Bool) → bytes_eq q e.0 ≡ b → cond (is_some (place_of es q)) (place_of es q) (cond b (Some (0 + length es)) None) ≡ place_of es q
-    at_b false f = place-kept (place_of es q)
-    at_b true f =
-        let same : q ≡ e.0 = same_name q e.0 f in
-        place-found (place_of es q) (Some (0 + length es)) (sym (is_there-place 0 q es) ∙ (rw same there))
-
--- a new name has the last place
-pub place-push_first : {V : Type 0} (es : List (List ℕ × V)) (e : List ℕ × V) (q : List ℕ) → is_there es e.0 ≡ false
-    → place_of (es ++ e ∷ []) q ≡ cond (bytes_eq e.0 q) (Some (length es)) (place_of es q)
-place-push_first {V} es e q fresh = position_from-push (λ (e : List ℕ × V). bytes_eq q e.0) 0 es e ∙ at_b (bytes_eq e.0 q) refl
-  where
-    at_b : (b : Bool) → bytes_eq e.0 q ≡ b → cond (is_some (place_of es q)) (place_of es q) (cond (bytes_eq q e.0) (Some (0 + length es)) None) ≡ cond b (Some (length es)) (place_of es q)
-    at_b false f = rw (bytes_eq-sym q e.0, f) (place-kept (place_of es q))
-    at_b true f =
-        let same : e.0 ≡ q = same_name e.0 q f in
-        let none : place_of es q ≡ None = place-None q es (rw (← same) fresh) in
-        let zero : 0 + length es ≡ length es = omega arith in
-        rw (bytes_eq-sym q e.0, f, none, zero) refl
-
--- the entries grow at the end by a name that is there
-pub agrees-push_again : {V : Type 0} (m : List ℕ → Option ℕ) (es fs : List (Bor (List ℕ) × V)) (k : Bor (List ℕ)) (v : V)
-    → Agrees m es → is_there (texts es) k.now ≡ true → fs ≡ es ++ (k, v) ∷ [] → Agrees m fs
-agrees-push_again m es fs k v old there made q =
-    let now : texts fs ≡ texts es ++ (k.now, v) ∷ [] = ap texts made ∙ texts-push es (k, v) in
-    old q ∙ sym (place-push_again (texts es) (k.now, v) q there) ∙ sym (ap (λ es. place_of es q) now)
-
--- the entries grow at the end by a new name, whose place goes into the map
-pub agrees-push_first : {V : Type 0} (m n : List ℕ → Option ℕ) (es fs : List (Bor (List ℕ) × V)) (k : Bor (List ℕ)) (key : List ℕ) (v : V) (place : ℕ)
-    → key ≡ k.now → Agrees m es → is_there (texts es) k.now ≡ false → fs ≡ es ++ (k, v) ∷ [] → place ≡ length es
-    → ((q : List ℕ) → n q ≡ cond (bytes_eq key q) (Some place) (m q)) → Agrees n fs
-agrees-push_first {V} m n es fs k key v place same old fresh made here updates q =
-    let now : texts fs ≡ texts es ++ (k.now, v) ∷ [] = ap texts made ∙ texts-push es (k, v) in
-    let last : place ≡ length (texts es) = here ∙ sym (simp length-map) in
-    updates q
-    ∙ (rw (old q, last, same) (sym (place-push_first (texts es) (k.now, v) q fresh)))
-    ∙ sym (ap (λ es. place_of es q) now)
-
--- the map gets the place that it has
-pub agrees-kept : {V : Type 0} (m n : List ℕ → Option ℕ) (es : List (Bor (List ℕ) × V)) (key : List ℕ) (first : ℕ)
-    → Agrees m es → place_of (texts es) key ≡ Some first
-    → ((q : List ℕ) → n q ≡ cond (bytes_eq key q) (Some first) (m q)) → Agrees n es
-agrees-kept {V} m n es key first old here updates q = updates q ∙ at_b (bytes_eq key q) refl
-  where
-    at_b : (b : Bool) → bytes_eq key q ≡ b → cond b (Some first) (m q) ≡ place_of (texts es) q
-    at_b false f = old q
-    at_b true f = let same : key ≡ q = same_name key q f in sym here ∙ ap (place_of (texts es)) same
-
--- the entries grow at the end by a name, whose place goes into the map where it has none
-pub agrees-push : {V : Type 0} (m n : List ℕ → Option ℕ) (es fs : List (Bor (List ℕ) × V)) (k : Bor (List ℕ)) (key : List ℕ) (v : V) (place first : ℕ)
-    → key ≡ k.now → Agrees m es → fs ≡ es ++ (k, v) ∷ [] → place ≡ length es
-    → first ≡ unwrap_or (m key) place
-    → ((q : List ℕ) → n q ≡ cond (bytes_eq key q) (Some first) (m q)) → Agrees n fs
-agrees-push {V} m n es fs k key v place first same old made here says updates = at_o (place_of (texts es) k.now) refl
-  where
-    found : m key ≡ place_of (texts es) k.now
-    found = old key ∙ ap (place_of (texts es)) same
-
-    at_o : (o : Option ℕ) → place_of (texts es) k.now ≡ o → Agrees n fs
-    at_o (Some p) e =
-        let is : first ≡ p = says ∙ ap (λ o. unwrap_or o place) (found ∙ e) in
-        let kept : Agrees n es = agrees-kept m n es key first old (ap (place_of (texts es)) same ∙ e ∙ ap Some (sym is)) updates in
-        agrees-push_again n es fs k v kept (is_there-place 0 k.now (texts es) ∙ ap is_some e) made
-    at_o None e =
-        let is : first ≡ place = says ∙ ap (λ o. unwrap_or o place) (found ∙ e) in
-        agrees-push_first m n es fs k key v place same old (is_there-place 0 k.now (texts es) ∙ ap is_some e) made here (rw is at updates)
-
--- the map of the first entries grows by the next one
-pub agrees-next : {V : Type 0} (m n : List ℕ → Option ℕ) (es : List (Bor (List ℕ) × V)) (i : ℕ) (e : Bor (List ℕ) × V) (key : List ℕ) (first : ℕ)
-    → i < length es → e ≡ get_or es i e → key ≡ (get_or es i e).0.now → Agrees m (take i es)
-    → first ≡ unwrap_or (m key) i
-    → ((q : List ℕ) → n q ≡ cond (bytes_eq key q) (Some first) (m q)) → Agrees n (take (i + 1) es)
-agrees-next {V} m n es i e key first within is same old says updates =
-    let named : key ≡ e.0.now = same ∙ ap (λ (e : Bor (List ℕ) × V). e.0.now) (sym is) in
-    let more : take (i + 1) es ≡ take i es ++ (e.0, e.1) ∷ [] = take_more es i e within ∙ ap (λ e. take i es ++ e ∷ []) (sym is) in
-    let here : i ≡ length (take i es) = grind (arith, common_steps) in
-    agrees-push m n (take i es) (take (i + 1) es) e.0 key e.1 i first named old more here says updates
 
 -- looking through the entries
 place-texts : {V : Type 0} (n : ℕ) (q : List ℕ) (es : List (Bor (List ℕ) × V)) → position_from (λ e. bytes_eq q e.0.now) n es ≡ position_from (λ e. bytes_eq q e.0) n (texts es)
@@ -279,46 +198,3 @@ place-new {V} es fs e new =
 pub item-after : {X : Type 0} (xs ys : List X) (x : X) → slice_get (xs ++ x ∷ ys) (length xs) ≡ Some x
 item-after [] ys x = refl
 item-after (y ∷ xs) ys x = item-after xs ys x
-
--- The place of a name that is pushed: the one that it has, or else the one after all.
-
-pub fresh-place : {V : Type 0} (es : List (List ℕ × V)) (q : List ℕ) (place first : ℕ) → place ≡ length es → first ≡ unwrap_or (place_of es q) place → first ≡ place → is_there es q ≡ false
-fresh-place {V} es q place first here says last = is_there-place 0 q es ∙ at_o (place_of es q) refl
-  where
-    at_o : (o : Option ℕ) → place_of es q ≡ o → is_some o ≡ false
-    at_o None e = refl
-    at_o (Some p) e =
-        let is : first ≡ p = says ∙ ap (λ o. unwrap_or o place) e in
-        let below : p < length es = place-below es q p e in
-        absurd (omega (arith, below, is, here, last))
-
-pub old-place : {V : Type 0} (es : List (List ℕ × V)) (q : List ℕ) (place first : ℕ) → first ≡ unwrap_or (place_of es q) place → (first ≡ place → ⊥) → place_of es q ≡ Some first
-old-place {V} es q place first says apart = at_o (place_of es q) refl
-  where
-    at_o : (o : Option ℕ) → place_of es q ≡ o → place_of es q ≡ Some first
-    at_o None e = absurd (apart (says ∙ ap (λ o. unwrap_or o place) e))
-    at_o (Some p) e = let is : first ≡ p = says ∙ ap (λ o. unwrap_or o place) e in e ∙ ap Some (sym is)
-
-pub old-there : {V : Type 0} (es : List (List ℕ × V)) (q : List ℕ) (first : ℕ) → place_of es q ≡ Some first → is_there es q ≡ true
-old-there es q first h = is_there-place 0 q es ∙ ap is_some h
-
--- the same, where the map has the places
-pub fresh-push : {V : Type 0} (m : List ℕ → Option ℕ) (es : List (Bor (List ℕ) × V)) (q key : List ℕ) (place first : ℕ) → key ≡ q → Agrees m es → place ≡ length es
-    → first ≡ unwrap_or (m key) place → first ≡ place → is_there (texts es) q ≡ false
-fresh-push m es q key place first same old here says last =
-    fresh-place (texts es) q place first (here ∙ sym (simp length-map)) (says ∙ ap (λ o. unwrap_or o place) (old key ∙ ap (place_of (texts es)) same)) last
-
-pub old-push : {V : Type 0} (m : List ℕ → Option ℕ) (es : List (Bor (List ℕ) × V)) (q key : List ℕ) (place first : ℕ) → key ≡ q → Agrees m es
-    → first ≡ unwrap_or (m key) place → (first ≡ place → ⊥) → place_of (texts es) q ≡ Some first
-old-push m es q key place first same old says apart =
-    old-place (texts es) q place first (says ∙ ap (λ o. unwrap_or o place) (old key ∙ ap (place_of (texts es)) same)) apart
-
--- an item is pushed and taken back
-pub pushed-popped : {X : Type 0} (es fs gs : List X) (x : X) (n : ℕ) → fs ≡ es ++ x ∷ [] → n ≡ length es + 1 → gs ≡ take (n - 1) fs → gs ≡ es
-pushed-popped {X} es fs gs x n made len rest =
-    let all : n - 1 ≡ length es = omega (arith, len) in
-    rest ∙ (rw (all, made) (take-all es))
-  where
-    take-all : (es : List X) → take (length es) (es ++ x ∷ []) ≡ es
-    take-all [] = refl
-    take-all (e ∷ es) = ap (λ es. e ∷ es) (take-all es)

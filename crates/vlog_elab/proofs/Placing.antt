@@ -1,11 +1,15 @@
--- Places by numbers and by names: what is found after one more.
-use Rattle.std.proofs.Common.{arith, ◌≡◌, ◌≢◌, ℕ, None, Some, Option, Bool, true, false, List, Bor, refl, sym, ◌∙◌, ap, cond, bytes_eq, nat_eq, is_eq, Result, Ok, Err, IfOk, OnErr}
+-- Names in slots: what is found after one more.
+use Rattle.std.proofs.Common.{arith, ◌≡◌, ℕ, zero, suc, ◌+◌, ◌<◌, [], ◌∷◌, ◌++◌, None, Some, Option, Bool, true, false, List, Bor, take, length, slice_get, get_or, is_some, unwrap_or, nat_eq, bytes_eq, Result, Ok, Err, OnOk, refl, sym, ◌∙◌, ap, subst, cond, is_eq}
 use Rattle.std.specs.BTreeMap.{BTreeMap, get_by}
 use Rattle.std.specs.Cmp.Lexicographic.{slice_cmp}
 use Rattle.std.specs.Ordering.{nat_cmp}
 use Rattle.std.specs.Map.{lookup}
-use Rattle.vlog_elab.specs.inside.Placed.{number_of, place_by, FirstIs}
-use Rattle.vlog_elab.proofs.Naming.{same_name}
+use Rattle.std.proofs.lemmas.Grind.{common_steps}
+use Rattle.std.proofs.lemmas.List.{length-map, take_more}
+use Rattle.vlog_elab.specs.Named.{place_of}
+use Rattle.vlog_elab.specs.inside.Agree.{texts, is_named, Finds, FindsEach}
+use Rattle.vlog_elab.specs.inside.Placed.{first_at, slot_of}
+use Rattle.vlog_elab.proofs.Naming.{same_name, bytes_eq-refl, bytes_eq-sym, texts-push, position_from-push, place-found, place-kept, item-after}
 
 nat_eq-refl : (n : ℕ) → nat_eq n n ≡ true
 nat_eq-refl n = grind arith
@@ -13,132 +17,227 @@ nat_eq-refl n = grind arith
 same_number : (m n : ℕ) → nat_eq m n ≡ true → m ≡ n
 same_number m n h = grind arith
 
--- names that differ in their numbers differ
-other_name : (a b : List ℕ) → nat_eq (number_of a) (number_of b) ≡ false → bytes_eq a b ≡ false
-other_name a b h = at_b (bytes_eq a b) refl
+-- names in different slots differ
+other_name : (slot : List ℕ → ℕ) (a b : List ℕ) → nat_eq (slot a) (slot b) ≡ false → bytes_eq a b ≡ false
+other_name slot a b h = at_b (bytes_eq a b) refl
   where
     at_b : (r : Bool) → bytes_eq a b ≡ r → bytes_eq a b ≡ false
     at_b false e = e
     at_b true e =
         let same : a ≡ b = same_name a b e in
-        let no : true ≡ false = sym (nat_eq-refl (number_of a)) ∙ ap (λ c. nat_eq (number_of a) (number_of c)) same ∙ h in
+        let no : true ≡ false = sym (nat_eq-refl (slot a)) ∙ ap (λ c. nat_eq (slot a) (slot c)) same ∙ h in
         absurd (cc no)
 
--- each name with a place has a number that is there
-abbrev pub Whole : (ℕ → Option (Bor (List ℕ) × ℕ)) → (List ℕ → Option ℕ) → Type 0
-Whole numbers others = (q : List ℕ) → numbers (number_of q) ≡ None → others q ≡ None
+-- Entries, and one more.
 
--- the first of its number is there
-abbrev pub Updates : (ℕ → Option (Bor (List ℕ) × ℕ)) → (ℕ → Option (Bor (List ℕ) × ℕ)) → List ℕ → Bor (List ℕ) × ℕ → Type 0
-Updates old new name first = (n : ℕ) → new n ≡ cond (nat_eq (number_of name) n) (Some first) (old n)
+slice_get-kept : {X : Type 0} (es : List X) (e : X) (n : ℕ) → n < length es → slice_get (es ++ e ∷ []) n ≡ slice_get es n
+slice_get-kept [] e n h = absurd (omega arith)
+slice_get-kept (x ∷ es) e zero h = refl
+slice_get-kept (x ∷ es) e (suc n) h = slice_get-kept es e n (omega arith)
 
--- the first of a number is put there
-pub whole-first : (old new : ℕ → Option (Bor (List ℕ) × ℕ)) (others : List ℕ → Option ℕ) (name : List ℕ) (first : Bor (List ℕ) × ℕ)
-    → Updates old new name first → Whole old others → Whole new others
-whole-first old new others name first update whole q none = at_b (nat_eq (number_of name) (number_of q)) refl
+slice_get-take : {X : Type 0} (es : List X) (n i : ℕ) → i < length (take n es) → slice_get (take n es) i ≡ slice_get es i
+slice_get-take [] zero i h = refl
+slice_get-take [] (suc n) i h = refl
+slice_get-take (x ∷ es) zero i h = absurd (omega arith)
+slice_get-take (x ∷ es) (suc n) zero h = refl
+slice_get-take (x ∷ es) (suc n) (suc i) h = slice_get-take es n i (omega arith)
+
+length-more : {X : Type 0} (es : List X) (e : X) → length (es ++ e ∷ []) ≡ length es + 1
+length-more es e = grind (arith, common_steps)
+
+-- the place of a name
+place-push : {V : Type 0} (es : List (Bor (List ℕ) × V)) (e : Bor (List ℕ) × V) (q : List ℕ)
+    → place_of (texts (es ++ e ∷ [])) q ≡ cond (is_some (place_of (texts es) q)) (place_of (texts es) q) (cond (bytes_eq q e.0.now) (Some (length es)) None)
+place-push {V} es e q =
+    let len : length (texts es) ≡ length es = simp length-map in
+    let here : 0 + length (texts es) ≡ length es = omega (arith, len) in
+    ap (λ es. place_of es q) (texts-push es e)
+    ∙ position_from-push (λ (e : List ℕ × V). bytes_eq q e.0) 0 (texts es) (e.0.now, e.1)
+    ∙ ap (λ n. cond (is_some (place_of (texts es) q)) (place_of (texts es) q) (cond (bytes_eq q e.0.now) (Some n) None)) here
+
+place-apart : {V : Type 0} (es : List (Bor (List ℕ) × V)) (e : Bor (List ℕ) × V) (q : List ℕ) → bytes_eq e.0.now q ≡ false → place_of (texts (es ++ e ∷ [])) q ≡ place_of (texts es) q
+place-apart es e q apart =
+    let other : bytes_eq q e.0.now ≡ false = bytes_eq-sym q e.0.now ∙ apart in
+    place-push es e q ∙ ap (λ b. cond (is_some (place_of (texts es) q)) (place_of (texts es) q) (cond b (Some (length es)) None)) other ∙ place-kept (place_of (texts es) q)
+
+place-again : {V : Type 0} (es : List (Bor (List ℕ) × V)) (e : Bor (List ℕ) × V) (q : List ℕ) → is_some (place_of (texts es) e.0.now) ≡ true → place_of (texts (es ++ e ∷ [])) q ≡ place_of (texts es) q
+place-again es e q there = at_b (bytes_eq e.0.now q) refl
   where
-    at_b : (b : Bool) → nat_eq (number_of name) (number_of q) ≡ b → others q ≡ None
-    at_b true e =
-        let no : Some first ≡ None = sym (ap (λ b. cond b (Some first) (old (number_of q))) e) ∙ sym (update (number_of q)) ∙ none in
-        absurd (cc no)
-    at_b false e = whole q (sym (ap (λ b. cond b (Some first) (old (number_of q))) e) ∙ sym (update (number_of q)) ∙ none)
+    at_b : (b : Bool) → bytes_eq e.0.now q ≡ b → place_of (texts (es ++ e ∷ [])) q ≡ place_of (texts es) q
+    at_b false h = place-apart es e q h
+    at_b true h =
+        let same : e.0.now ≡ q = same_name e.0.now q h in
+        place-push es e q ∙ place-found (place_of (texts es) q) (cond (bytes_eq q e.0.now) (Some (length es)) None) (subst (λ q. is_some (place_of (texts es) q) ≡ true) same there)
 
--- a name that is the first of its number
-pub place-first : (old new : ℕ → Option (Bor (List ℕ) × ℕ)) (others : List ℕ → Option ℕ) (name : List ℕ) (place : ℕ) (first : Bor (List ℕ) × ℕ)
-    → FirstIs (old (number_of name)) name place first → Updates old new name first → Whole old others → first.0.now ≡ name
-    → (q : List ℕ) → place_by (new (number_of q)) (others q) q ≡ cond (bytes_eq name q) (Some first.1) (place_by (old (number_of q)) (others q) q)
-place-first old new others name place first is update whole same q = at_b (nat_eq (number_of name) (number_of q)) refl
+-- What is found.
+
+finds-kept : {V : Type 0} (f o : Option ℕ) (es : List (Bor (List ℕ) × V)) (e : Bor (List ℕ) × V) (q : List ℕ)
+    → place_of (texts (es ++ e ∷ [])) q ≡ place_of (texts es) q → Finds f o es q → Finds f o (es ++ e ∷ []) q
+finds-kept None o es e q same h = (same ∙ h.0, h.1)
+finds-kept (Some first) o es e q same h =
+    let below : first < length es = h.0 in
+    let more : length (es ++ e ∷ []) ≡ length es + 1 = length-more es e in
+    (omega (arith, below, more), same ∙ h.1 ∙ ap (λ x. cond (is_named x q) (Some first) o) (sym (slice_get-kept es e first below)))
+
+-- the entry is the first of its slot
+finds-first : {V : Type 0} (o : Option ℕ) (es : List (Bor (List ℕ) × V)) (e : Bor (List ℕ) × V) (q : List ℕ) → Finds None o es q → Finds (Some (length es)) o (es ++ e ∷ []) q
+finds-first o es e q h =
+    let more : length (es ++ e ∷ []) ≡ length es + 1 = length-more es e in
+    (omega (arith, more),
+     place-push es e q
+     ∙ ap (λ p. cond (is_some p) p (cond (bytes_eq q e.0.now) (Some (length es)) None)) h.0
+     ∙ ap (λ b. cond b (Some (length es)) None) (bytes_eq-sym q e.0.now)
+     ∙ ap (λ o. cond (bytes_eq e.0.now q) (Some (length es)) o) (sym h.1)
+     ∙ ap (λ x. cond (is_named x q) (Some (length es)) o) (sym (item-after es [] e)))
+
+each-first : {V : Type 0} (firsts after : ℕ → Option ℕ) (slot : List ℕ → ℕ) (others : List ℕ → Option ℕ) (es : List (Bor (List ℕ) × V)) (e : Bor (List ℕ) × V)
+    → firsts (slot e.0.now) ≡ None → ((n : ℕ) → after n ≡ cond (nat_eq (slot e.0.now) n) (Some (length es)) (firsts n))
+    → ((q : List ℕ) → Finds (firsts (slot q)) (others q) es q) → (q : List ℕ) → Finds (after (slot q)) (others q) (es ++ e ∷ []) q
+each-first {V} firsts after slot others es e none puts old q = at_b (nat_eq (slot e.0.now) (slot q)) refl
   where
-    -- another name of the same number
-    at_o : (o : Option (Bor (List ℕ) × ℕ)) → old (number_of q) ≡ o → FirstIs o name place first → bytes_eq name q ≡ false → others q ≡ place_by o (others q) q
-    at_o None e is apart = whole q e
-    at_o (Some there) e is apart =
-        let other : bytes_eq there.0.now q ≡ false = ap (λ (f : Bor (List ℕ) × ℕ). bytes_eq f.0.now q) (sym is) ∙ ap (λ n. bytes_eq n q) same ∙ apart in
-        sym (ap (λ b. cond b (Some there.1) (others q)) other)
+    at_b : (b : Bool) → nat_eq (slot e.0.now) (slot q) ≡ b → Finds (after (slot q)) (others q) (es ++ e ∷ []) q
+    at_b true h =
+        let empty : firsts (slot q) ≡ None = ap firsts (sym (same_number (slot e.0.now) (slot q) h)) ∙ none in
+        let now : after (slot q) ≡ Some (length es) = puts (slot q) ∙ ap (λ b. cond b (Some (length es)) (firsts (slot q))) h in
+        let here : Finds None (others q) es q = subst (λ f. Finds f (others q) es q) empty (old q) in
+        subst (λ f. Finds f (others q) (es ++ e ∷ []) q) (sym now) (finds-first (others q) es e q here)
+    at_b false h =
+        let now : after (slot q) ≡ firsts (slot q) = puts (slot q) ∙ ap (λ b. cond b (Some (length es)) (firsts (slot q))) h in
+        subst (λ f. Finds f (others q) (es ++ e ∷ []) q) (sym now)
+          (finds-kept (firsts (slot q)) (others q) es e q (place-apart es e q (other_name slot e.0.now q h)) (old q))
 
-    at_n : number_of name ≡ number_of q → (b : Bool) → bytes_eq name q ≡ b → cond b (Some first.1) (others q) ≡ cond b (Some first.1) (place_by (old (number_of q)) (others q) q)
-    at_n e true f = refl
-    at_n e false f = at_o (old (number_of q)) refl (rw (← e) is) f
+-- an entry of its name is the first of its slot
+each-again : {V : Type 0} (firsts others : List ℕ → Option ℕ) (es : List (Bor (List ℕ) × V)) (e : Bor (List ℕ) × V) (first : ℕ)
+    → firsts e.0.now ≡ Some first → is_named (slice_get es first) e.0.now ≡ true
+    → ((q : List ℕ) → Finds (firsts q) (others q) es q) → (q : List ℕ) → Finds (firsts q) (others q) (es ++ e ∷ []) q
+each-again firsts others es e first there own old q =
+    let here : Finds (Some first) (others e.0.now) es e.0.now = subst (λ f. Finds f (others e.0.now) es e.0.now) there (old e.0.now) in
+    let found : place_of (texts es) e.0.now ≡ Some first = here.1 ∙ ap (λ b. cond b (Some first) (others e.0.now)) own in
+    finds-kept (firsts q) (others q) es e q (place-again es e q (ap is_some found)) (old q)
 
-    at_b : (b : Bool) → nat_eq (number_of name) (number_of q) ≡ b → place_by (new (number_of q)) (others q) q ≡ cond (bytes_eq name q) (Some first.1) (place_by (old (number_of q)) (others q) q)
-    at_b true e =
-        let now : new (number_of q) ≡ Some first = update (number_of q) ∙ ap (λ b. cond b (Some first) (old (number_of q))) e in
-        ap (λ o. place_by o (others q) q) now
-        ∙ ap (λ n. cond (bytes_eq n q) (Some first.1) (others q)) same
-        ∙ at_n (same_number (number_of name) (number_of q) e) (bytes_eq name q) refl
-    at_b false e =
-        let now : new (number_of q) ≡ old (number_of q) = update (number_of q) ∙ ap (λ b. cond b (Some first) (old (number_of q))) e in
-        ap (λ o. place_by o (others q) q) now
-        ∙ sym (ap (λ b. cond b (Some first.1) (place_by (old (number_of q)) (others q) q)) (other_name name q e))
+-- another name is the first of its slot
+first-other : (o : Option ℕ) (n found : ℕ) → found ≡ unwrap_or o n → cond (is_some o) o (Some n) ≡ Some found
+first-other None n found h = ap Some (sym h)
+first-other (Some p) n found h = ap Some (sym h)
 
--- a name that isn't the first of its number: the first was there
-pub old-first : (old : ℕ → Option (Bor (List ℕ) × ℕ)) (name : List ℕ) (place : ℕ) (first : Bor (List ℕ) × ℕ)
-    → FirstIs (old (number_of name)) name place first → first.0.now ≢ name → old (number_of name) ≡ Some first
-old-first old name place first is apart = at_o (old (number_of name)) is
+each-other : {V : Type 0} (firsts others after : List ℕ → Option ℕ) (es : List (Bor (List ℕ) × V)) (e : Bor (List ℕ) × V) (first found : ℕ)
+    → firsts e.0.now ≡ Some first → is_named (slice_get es first) e.0.now ≡ false → found ≡ unwrap_or (others e.0.now) (length es)
+    → ((q : List ℕ) → after q ≡ cond (bytes_eq e.0.now q) (Some found) (others q))
+    → ((q : List ℕ) → Finds (firsts q) (others q) es q) → (q : List ℕ) → Finds (firsts q) (after q) (es ++ e ∷ []) q
+each-other {V} firsts others after es e first found there other says puts old q = at_b (bytes_eq e.0.now q) refl
   where
-    at_o : (o : Option (Bor (List ℕ) × ℕ)) → FirstIs o name place first → o ≡ Some first
-    at_o None is = absurd (apart is.0)
-    at_o (Some there) is = ap Some (sym is)
+    n : List ℕ
+    n = e.0.now
 
--- nothing changes where it was there
-pub numbers-kept : (old new : ℕ → Option (Bor (List ℕ) × ℕ)) (name : List ℕ) (first : Bor (List ℕ) × ℕ)
-    → old (number_of name) ≡ Some first → Updates old new name first → (n : ℕ) → new n ≡ old n
-numbers-kept old new name first there update n = update n ∙ at_b (nat_eq (number_of name) n) refl
-  where
-    at_b : (b : Bool) → nat_eq (number_of name) n ≡ b → cond b (Some first) (old n) ≡ old n
-    at_b true e = sym there ∙ ap old (same_number (number_of name) n e)
-    at_b false e = refl
+    own : Finds (firsts n) (after n) (es ++ e ∷ []) n
+    own =
+        let here : Finds (Some first) (others n) es n = subst (λ f. Finds f (others n) es n) there (old n) in
+        let below : first < length es = here.0 in
+        let more : length (es ++ e ∷ []) ≡ length es + 1 = length-more es e in
+        let was : place_of (texts es) n ≡ others n = here.1 ∙ ap (λ b. cond b (Some first) (others n)) other in
+        let now : after n ≡ Some found = puts n ∙ ap (λ b. cond b (Some found) (others n)) (bytes_eq-refl n) in
+        let placed : place_of (texts (es ++ e ∷ [])) n ≡ Some found
+        = place-push es e n
+        ∙ ap (λ b. cond (is_some (place_of (texts es) n)) (place_of (texts es) n) (cond b (Some (length es)) None)) (bytes_eq-refl n)
+        ∙ ap (λ p. cond (is_some p) p (Some (length es))) was
+        ∙ first-other (others n) (length es) found says in
+        let named : is_named (slice_get (es ++ e ∷ []) first) n ≡ false = ap (λ x. is_named x n) (slice_get-kept es e first below) ∙ other in
+        subst (λ f. Finds f (after n) (es ++ e ∷ []) n) (sym there)
+          (omega (arith, below, more), placed ∙ sym now ∙ sym (ap (λ b. cond b (Some first) (after n)) named))
 
--- such a name gets its place among the others
-pub place-other : (numbers : ℕ → Option (Bor (List ℕ) × ℕ)) (old new : List ℕ → Option ℕ) (name : List ℕ) (found : ℕ) (first : Bor (List ℕ) × ℕ)
-    → numbers (number_of name) ≡ Some first → first.0.now ≢ name → ((q : List ℕ) → new q ≡ cond (bytes_eq name q) (Some found) (old q))
-    → (q : List ℕ) → place_by (numbers (number_of q)) (new q) q ≡ cond (bytes_eq name q) (Some found) (place_by (numbers (number_of q)) (old q) q)
-place-other numbers old new name found first there apart update q = at_b (bytes_eq name q) refl
-  where
-    at_f : (b : Bool) → bytes_eq first.0.now q ≡ b → name ≡ q → cond b (Some first.1) (new q) ≡ new q
-    at_f false e same = refl
-    at_f true e same = absurd (apart (same_name first.0.now q e ∙ sym same))
+    at_b : (b : Bool) → bytes_eq n q ≡ b → Finds (firsts q) (after q) (es ++ e ∷ []) q
+    at_b true h = subst (λ q. Finds (firsts q) (after q) (es ++ e ∷ []) q) (same_name n q h) own
+    at_b false h =
+        let now : after q ≡ others q = puts q ∙ ap (λ b. cond b (Some found) (others q)) h in
+        subst (λ o. Finds (firsts q) o (es ++ e ∷ []) q) (sym now) (finds-kept (firsts q) (others q) es e q (place-apart es e q h) (old q))
 
-    at_b : (b : Bool) → bytes_eq name q ≡ b → place_by (numbers (number_of q)) (new q) q ≡ cond b (Some found) (place_by (numbers (number_of q)) (old q) q)
-    at_b true e =
-        let same : name ≡ q = same_name name q e in
-        let here : numbers (number_of q) ≡ Some first = ap (λ n. numbers (number_of n)) (sym same) ∙ there in
-        let now : new q ≡ Some found = update q ∙ ap (λ b. cond b (Some found) (old q)) e in
-        ap (λ o. place_by o (new q) q) here ∙ at_f (bytes_eq first.0.now q) refl same ∙ now
-    at_b false e = ap (λ o. place_by (numbers (number_of q)) o q) (update q ∙ ap (λ b. cond b (Some found) (old q)) e)
+-- The next of some entries is taken up.
 
-pub whole-other : (numbers : ℕ → Option (Bor (List ℕ) × ℕ)) (old new : List ℕ → Option ℕ) (name : List ℕ) (found : ℕ) (first : Bor (List ℕ) × ℕ)
-    → numbers (number_of name) ≡ Some first → ((q : List ℕ) → new q ≡ cond (bytes_eq name q) (Some found) (old q)) → Whole numbers old → Whole numbers new
-whole-other numbers old new name found first there update whole q none = update q ∙ at_b (bytes_eq name q) refl
-  where
-    at_b : (b : Bool) → bytes_eq name q ≡ b → cond b (Some found) (old q) ≡ None
-    at_b true e =
-        let no : Some first ≡ None = sym there ∙ ap (λ n. numbers (number_of n)) (same_name name q e) ∙ none in
-        absurd (cc no)
-    at_b false e = whole q none
+-- the names that a map has places for
+abbrev pub others_of : BTreeMap (Bor (List ℕ)) ℕ → List ℕ → Option ℕ
+others_of by_name q = get_by (λ k. slice_cmp nat_cmp q k.now) by_name
 
--- a map of names with the same entries has the same places
-pub others-kept : (old new : BTreeMap (Bor (List ℕ)) ℕ) → new.entries ≡ old.entries → (q : List ℕ) → get_by (λ k. slice_cmp nat_cmp q k.now) new ≡ get_by (λ k. slice_cmp nat_cmp q k.now) old
-others-kept old new same q = ap (lookup (λ k. is_eq (slice_cmp nat_cmp q k.now))) same
+-- the next entry, whatever became of the slots and the map
+next : {V : Type 0} (slots : List ℕ) (by_name : BTreeMap (Bor (List ℕ)) ℕ) (entries : List (Bor (List ℕ) × V)) (place : ℕ) (e : Bor (List ℕ) × V)
+    → place < length entries → e ≡ get_or entries place e → 0 < length slots
+    → ((q : List ℕ) → Finds (first_at slots (slot_of (length slots) q)) (others_of by_name q) (take place entries ++ e ∷ []) q)
+    → FindsEach slots by_name (take (place + 1) entries)
+next {V} slots by_name entries place e within is some each =
+    let more : take (place + 1) entries ≡ take place entries ++ e ∷ [] = take_more entries place e within ∙ ap (λ e. take place entries ++ e ∷ []) (sym is) in
+    record {
+      some = some;
+      each = λ q. subst (λ es. Finds (first_at slots (slot_of (length slots) q)) (others_of by_name q) es q) (sym more) (each q);
+    }
 
--- whether it gets its place or there is want of memory
-pub whole-after : {E : Type 0} (numbers : ℕ → Option (Bor (List ℕ) × ℕ)) (old new : BTreeMap (Bor (List ℕ)) ℕ) (name : List ℕ) (first : Bor (List ℕ) × ℕ) (result : Result ℕ E)
-    → numbers (number_of name) ≡ Some first
-    → IfOk result (λ found. (q : List ℕ) → get_by (λ k. slice_cmp nat_cmp q k.now) new ≡ cond (bytes_eq name q) (Some found) (get_by (λ k. slice_cmp nat_cmp q k.now) old))
-    → OnErr result (new.entries ≡ old.entries)
-    → Whole numbers (λ q. get_by (λ k. slice_cmp nat_cmp q k.now) old) → Whole numbers (λ q. get_by (λ k. slice_cmp nat_cmp q k.now) new)
-whole-after numbers old new name first (Ok found) there updates same whole =
-    whole-other numbers (λ q. get_by (λ k. slice_cmp nat_cmp q k.now) old) (λ q. get_by (λ k. slice_cmp nat_cmp q k.now) new) name found first there updates whole
-whole-after numbers old new name first (Err fault) there updates same whole = λ q none. others-kept old new same q ∙ whole q none
+length-take_at : {X : Type 0} (es : List X) (n : ℕ) → n < length es → length (take n es) ≡ n
+length-take_at es n h = grind (arith, common_steps)
 
--- a name that isn't the first of its number gets its place
-pub place-after : (numbers after : ℕ → Option (Bor (List ℕ) × ℕ)) (old new : List ℕ → Option ℕ) (name : List ℕ) (found : ℕ) (first : Bor (List ℕ) × ℕ)
-    → numbers (number_of name) ≡ Some first → first.0.now ≢ name → Updates numbers after name first → ((q : List ℕ) → new q ≡ cond (bytes_eq name q) (Some found) (old q))
-    → (q : List ℕ) → place_by (after (number_of q)) (new q) q ≡ cond (bytes_eq name q) (Some found) (place_by (numbers (number_of q)) (old q) q)
-place-after numbers after old new name found first there apart update updates q =
-    ap (λ o. place_by o (new q) q) (numbers-kept numbers after name first there update (number_of q))
-    ∙ place-other numbers old new name found first there apart updates q
+pub named-at : {V : Type 0} (entries : List (Bor (List ℕ) × V)) (place : ℕ) (e : Bor (List ℕ) × V) (name : List ℕ) → e ≡ get_or entries place e → name ≡ (get_or entries place e).0.now → name ≡ e.0.now
+named-at {V} entries place e name is same = same ∙ ap (λ (e : Bor (List ℕ) × V). e.0.now) (sym is)
 
-pub on-err : {X E : Type 0} (result : Result X E) (P : Type 0) → P → OnErr result P
-on-err (Ok x) P p = tt
-on-err (Err e) P p = p
+-- its slot was empty
+pub next-first : {V : Type 0} (slots after : List ℕ) (by_name : BTreeMap (Bor (List ℕ)) ℕ) (entries : List (Bor (List ℕ) × V)) (place : ℕ) (e : Bor (List ℕ) × V) (name : List ℕ)
+    → place < length entries → e ≡ get_or entries place e → name ≡ e.0.now → length after ≡ length slots
+    → first_at slots (slot_of (length slots) name) ≡ None
+    → ((n : ℕ) → first_at after n ≡ cond (nat_eq (slot_of (length slots) name) n) (Some place) (first_at slots n))
+    → FindsEach slots by_name (take place entries) → FindsEach after by_name (take (place + 1) entries)
+next-first {V} slots after by_name entries place e name within is same len none puts old =
+    let here : length (take place entries) ≡ place = length-take_at entries place within in
+    let empty : first_at slots (slot_of (length slots) e.0.now) ≡ None = subst (λ n. first_at slots (slot_of (length slots) n) ≡ None) same none in
+    let put : (n : ℕ) → first_at after n ≡ cond (nat_eq (slot_of (length slots) e.0.now) n) (Some (length (take place entries))) (first_at slots n)
+    = λ n. puts n
+    ∙ ap (λ name. cond (nat_eq (slot_of (length slots) name) n) (Some place) (first_at slots n)) same
+    ∙ ap (λ place. cond (nat_eq (slot_of (length slots) e.0.now) n) (Some place) (first_at slots n)) (sym here) in
+    let each = each-first (first_at slots) (first_at after) (slot_of (length slots)) (others_of by_name) (take place entries) e empty put old.each in
+    next after by_name entries place e within is (subst (λ n. 0 < n) (sym len) old.some)
+      (λ q. subst (λ n. Finds (first_at after (slot_of n q)) (others_of by_name q) (take place entries ++ e ∷ []) q) (sym len) (each q))
+
+-- the first of its slot is below the place
+first-below : {V : Type 0} (slots : List ℕ) (by_name : BTreeMap (Bor (List ℕ)) ℕ) (entries : List (Bor (List ℕ) × V)) (place first : ℕ) (name : List ℕ)
+    → first_at slots (slot_of (length slots) name) ≡ Some first → FindsEach slots by_name (take place entries) → slice_get (take place entries) first ≡ slice_get entries first
+first-below slots by_name entries place first name there old =
+    let here : Finds (Some first) (others_of by_name name) (take place entries) name = subst (λ f. Finds f (others_of by_name name) (take place entries) name) there (old.each name) in
+    slice_get-take entries place first here.0
+
+-- the first of its slot has its name
+pub next-again : {V : Type 0} (slots : List ℕ) (by_name : BTreeMap (Bor (List ℕ)) ℕ) (entries : List (Bor (List ℕ) × V)) (place : ℕ) (e : Bor (List ℕ) × V) (name : List ℕ) (first : ℕ)
+    → place < length entries → e ≡ get_or entries place e → name ≡ e.0.now
+    → first_at slots (slot_of (length slots) name) ≡ Some first → is_named (slice_get entries first) name ≡ true
+    → FindsEach slots by_name (take place entries) → FindsEach slots by_name (take (place + 1) entries)
+next-again {V} slots by_name entries place e name first within is same there own old =
+    let own_taken : is_named (slice_get (take place entries) first) name ≡ true = ap (λ x. is_named x name) (first-below slots by_name entries place first name there old) ∙ own in
+    next slots by_name entries place e within is old.some
+      (each-again (λ q. first_at slots (slot_of (length slots) q)) (others_of by_name) (take place entries) e first
+        (subst (λ n. first_at slots (slot_of (length slots) n) ≡ Some first) same there)
+        (subst (λ n. is_named (slice_get (take place entries) first) n ≡ true) same own_taken) old.each)
+
+-- it hasn't, and the name goes into the map
+pub next-other : {V : Type 0} (slots : List ℕ) (by_name after : BTreeMap (Bor (List ℕ)) ℕ) (entries : List (Bor (List ℕ) × V)) (place : ℕ) (e : Bor (List ℕ) × V) (name : List ℕ) (first found : ℕ)
+    → place < length entries → e ≡ get_or entries place e → name ≡ e.0.now
+    → first_at slots (slot_of (length slots) name) ≡ Some first → is_named (slice_get entries first) name ≡ false
+    → found ≡ unwrap_or (others_of by_name name) place → ((q : List ℕ) → others_of after q ≡ cond (bytes_eq name q) (Some found) (others_of by_name q))
+    → FindsEach slots by_name (take place entries) → FindsEach slots after (take (place + 1) entries)
+next-other {V} slots by_name after entries place e name first found within is same there other says puts old =
+    let here : length (take place entries) ≡ place = length-take_at entries place within in
+    let other_taken : is_named (slice_get (take place entries) first) name ≡ false = ap (λ x. is_named x name) (first-below slots by_name entries place first name there old) ∙ other in
+    let says_here : found ≡ unwrap_or (others_of by_name e.0.now) (length (take place entries))
+    = says ∙ ap (λ n. unwrap_or (others_of by_name n) place) same ∙ ap (λ n. unwrap_or (others_of by_name e.0.now) n) (sym here) in
+    next slots after entries place e within is old.some
+      (each-other (λ q. first_at slots (slot_of (length slots) q)) (others_of by_name) (others_of after) (take place entries) e first found
+        (subst (λ n. first_at slots (slot_of (length slots) n) ≡ Some first) same there)
+        (subst (λ n. is_named (slice_get (take place entries) first) n ≡ false) same other_taken) says_here
+        (λ q. puts q ∙ ap (λ n. cond (bytes_eq n q) (Some found) (others_of by_name q)) same) old.each)
+
+-- a map with the same entries finds the same
+pub finds-unchanged : {V : Type 0} (slots : List ℕ) (by_name after : BTreeMap (Bor (List ℕ)) ℕ) (entries : List (Bor (List ℕ) × V))
+    → after.entries ≡ by_name.entries → FindsEach slots by_name entries → FindsEach slots after entries
+finds-unchanged {V} slots by_name after entries same old =
+    let others : (q : List ℕ) → others_of after q ≡ others_of by_name q = λ q. ap (lookup (λ k. is_eq (slice_cmp nat_cmp q k.now))) same in
+    record {
+      some = old.some;
+      each = λ q. subst (λ o. Finds (first_at slots (slot_of (length slots) q)) o entries q) (sym (others q)) (old.each q);
+    }
+
+pub on-ok : {X E : Type 0} (result : Result X E) {P Q : Type 0} → (P → Q) → OnOk result P → OnOk result Q
+on-ok (Ok x) f p = f p
+on-ok (Err e) f p = tt

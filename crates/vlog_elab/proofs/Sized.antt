@@ -1,5 +1,5 @@
 -- The tokens of a module are no fewer than the nets that it mentions and its instances together.
-use Rattle.std.proofs.Common.{◌≡◌, inl, inr, ℕ, ◌+◌, ◌≤◌, Bool, true, false, cond, List, [], ◌∷◌, ◌++◌, map, length, Option, Some, None, ap, ◌∙◌, arith}
+use Rattle.std.proofs.Common.{◌≡◌, inl, inr, ℕ, ◌+◌, ◌≤◌, Bool, true, false, cond, List, [], ◌∷◌, ◌++◌, length, Option, Some, None, ap, ◌∙◌, arith}
 use Rattle.std.specs.List.{flat_map, All}
 use Rattle.std.proofs.lemmas.Grind.{flat_map-append}
 use Rattle.std.proofs.lemmas.List.{length-append, length-map}
@@ -18,7 +18,7 @@ use Rattle.vlog_read.specs.declared.tree.TInst.{TInst}
 use Rattle.vlog_read.specs.declared.tree.Item.{Item}
 use Rattle.vlog_read.specs.declared.tree.Item.TheVariants.{Decl as Declaration, Insts}
 use Rattle.vlog_read.specs.declared.tree.TModule.{TModule}
-use Rattle.vlog_read.specs.Grammar.{more_names, names, maybe_range, maybe_wire, declares, decl, part, Expr, MoreExprs, alone, joined, no_more, one_more, maybe_expr, conn_of, conn, lone_conn_of, lone_conn, more_conns, conns, inst, more_insts, insts, item, items, port_decl, more_port_decls, header, ports, one_module, Source, the_end, cell, end_cell, next_module}
+use Rattle.vlog_read.specs.Grammar.{more_names, names, maybe_range, maybe_wire, declares, decl, part, Expr, MoreExprs, alone, joined, no_more, one_more, maybe_expr, conn_of, conn, lone_conn_of, more_conns, conns, inst, more_insts, insts, item, items, more_port_decls, header, ports, one_module, Source, the_end, cell, end_cell, next_module}
 use Rattle.vlog_elab.specs.declared.scope.Net.{Net}
 use Rattle.vlog_elab.specs.Named.{Named, is_there, firsts}
 use Rattle.vlog_elab.specs.Text.{header_decls, range_of}

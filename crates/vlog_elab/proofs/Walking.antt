@@ -1,5 +1,5 @@
 -- Walks: in parts, and by what stands before each item.
-use Rattle.std.proofs.Common.{◌≡◌, ℕ, ◌+◌, ◌<◌, [], ◌∷◌, ◌++◌, None, Some, Option, true, false, List, map, take, drop, length, get_or, refl, sym, ◌∙◌, ap, subst, cond, append_assoc, Result, Ok, Err}
+use Rattle.std.proofs.Common.{◌≡◌, ℕ, ◌+◌, ◌<◌, [], ◌∷◌, ◌++◌, None, Some, Option, List, map, take, drop, length, get_or, refl, sym, ◌∙◌, ap, subst, append_assoc, Result, Ok, Err}
 use Rattle.std.specs.List.{flat_map}
 use Rattle.std.proofs.lemmas.Grind.{flat_map-append}
 use Rattle.std.proofs.lemmas.List.{append-nil, take_more, drop_more, take-append-drop, map-append}

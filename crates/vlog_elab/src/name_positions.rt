@@ -1,47 +1,77 @@
 //! Positions of names.
-ghost use Rattle.std.specs.Prelude.{◌≡◌, ℕ, List, None, Some, if◌then◌else◌, bytes_eq, nat_eq, unwrap_or, IfOk, OnErr};
+ghost use Rattle.std.specs.Prelude.{◌≡◌, ℕ, List, ◌+◌, ◌/◌, ◌<◌, nat_lt, if◌then◌else◌, length, take, slice_get, bytes_eq, nat_eq, Some, unwrap_or, IfOk, OnOk, OnErr};
 ghost use Rattle.std.specs.Ordering.{nat_cmp};
 ghost use Rattle.std.specs.Cmp.Lexicographic.{slice_cmp};
 ghost use Rattle.std.specs.BTreeMap.{get_by, IsUnchanged};
-ghost use Rattle.vlog_elab.specs.inside.Placed.{number_of, place_at, AreWhole, FirstIs};
+ghost use Rattle.vlog_elab.specs.Named.{place_of};
+ghost use Rattle.vlog_elab.specs.inside.Agree.{texts, is_named, FindsEach};
+ghost use Rattle.vlog_elab.specs.inside.Placed.{number_of, slot_of, first_at};
 
-use emh_base::NoMemory;
+use emh_base::{Name, NoMemory};
 use std::alloc::Global;
 use std::collections::BTreeMap;
 
-/// A place for each of some names, which is found in logarithmic time, whatever the names.
+/// The factor of the numbers of names: it is odd and has no pattern, so names that are nearly alike, as `n1` and `n2`,
+/// have numbers that stand far apart.
+const FACTOR: u64 = 2_862_933_555_777_941_757;
+
+/// What an empty slot holds.
+const EMPTY: u32 = u32::MAX;
+
+/// Where each of some entries stands, by its name. The entries themselves are kept by the caller.
 ///
-/// The names of a netlist mostly begin alike, so an ordered map of them compares many of their bytes at each step. Here
-/// they are ordered by a number that each has, and the bytes of a name are compared once. A name whose number another
-/// one has is in an ordered map of names.
+/// A name has a slot, by a number that is made of its bytes, and the place of the first name of a slot stands in it. A
+/// name whose slot another one has is in an ordered map of names. Of names that aren't chosen for it few share a slot,
+/// so most are found by one look into their slot; names that all share one cost what the ordered map costs.
 #[derive(Drop)]
 pub struct NamePositions<'a> {
-    /// The first name of each number, with its place.
-    by_number: BTreeMap<u64, (&'a [u8], usize)>,
+    /// The place of the first name of each slot.
+    slots: Vec<u32>,
     /// The places of the other names.
     by_name: BTreeMap<&'a [u8], usize>,
-    ghost whole: { AreWhole by_number by_name },
 }
 
 impl<'a> NamePositions<'a> {
-    /// No places. It takes no memory yet.
+    /// No places, and no slot. It takes no memory yet.
     pub fn new(alloc: Global) -> NamePositions<'a>
-        ensures { (name : List ℕ) → place_at result.by_number result.by_name name ≡ None }
+        ensures { length result.slots.items ≡ 0 }
     {
         NamePositions {
-            by_number: BTreeMap::new(alloc),
+            slots: Vec::new(alloc),
             by_name: BTreeMap::new(alloc),
         }
     }
 
-    /// The place of a name.
-    pub fn get(&self, name: &[u8]) -> Option<usize>
-        ensures { result ≡ place_at self.now.by_number self.now.by_name name.now }
+    /// The places of these entries, with four slots for each.
+    pub fn of<V>(alloc: Global, entries: &[(&'a Name, V)]) -> Result<NamePositions<'a>, NoMemory>
+        ensures { IfOk result (λ places. FindsEach places.slots.items places.by_name entries.now) }
     {
-        match self.by_number.get(&number_of(name)) {
-            Some((first, place)) => {
-                if *first == name {
-                    return Some(*place);
+        let mut places = NamePositions {
+            slots: Vec::from_elem(alloc, EMPTY, slots_for(entries.len()))?,
+            by_name: BTreeMap::new(alloc),
+        };
+        for place in 0..entries.len() {
+            places.add(entries, place)?;
+        }
+        Ok(places)
+    }
+
+    /// Whether there are two slots for each of so many entries and for one more.
+    pub fn has_room(&self, entries: usize) -> bool
+        ensures { result ≡ nat_lt entries (length self.now.slots.items / 2) }
+    {
+        entries < self.slots.len() / 2
+    }
+
+    /// The place of a name among the entries.
+    pub fn get<V>(&self, entries: &[(&Name, V)], name: &[u8]) -> Option<usize>
+        requires { FindsEach self.now.slots.items self.now.by_name entries.now }
+        ensures { result ≡ place_of (texts entries.now) name.now }
+    {
+        match first_at(self.slots.as_slice(), slot_of(self.slots.len(), name)) {
+            Some(first) => {
+                if is_named(entries, first, name) {
+                    return Some(first);
                 }
                 self.by_name.get(name).copied()
             }
@@ -49,23 +79,43 @@ impl<'a> NamePositions<'a> {
         }
     }
 
-    /// The place that a name has, or else this one, which it gets. After want of memory all is as before.
-    pub fn get_or_insert(&mut self, name: &'a [u8], place: usize) -> Result<usize, NoMemory>
-        ensures first { IfOk result (λ first. first
-            ≡ unwrap_or (place_at self.old.by_number self.old.by_name name.now) place) }
-        ensures ok { IfOk result (λ first. (q : List ℕ)
-            → place_at self.new.by_number self.new.by_name q
-            ≡ (if bytes_eq name.now q then Some first else place_at self.old.by_number self.old.by_name q)) }
-        ensures err { OnErr result ((q : List ℕ) → place_at self.new.by_number self.new.by_name q
-            ≡ place_at self.old.by_number self.old.by_name q) }
+    /// Takes up the entry at this place, after those before it. After want of memory all is found as before. More
+    /// places than a slot can hold are want of memory too.
+    pub fn add<V>(&mut self, entries: &[(&'a Name, V)], place: usize) -> Result<(), NoMemory>
+        requires within { place < length entries.now }
+        requires before { FindsEach self.old.slots.items self.old.by_name (take place entries.now) }
+        ensures ok { OnOk result (FindsEach self.new.slots.items self.new.by_name
+            (take (place + 1) entries.now)) }
+        ensures err { OnErr result (FindsEach self.new.slots.items self.new.by_name
+            (take place entries.now)) }
     {
-        let first = first_with(&mut self.by_number, name, place)?;
-        if first.0 == name {
-            return Ok(first.1);
+        let name = entries[place].0.as_bytes();
+        let slot = slot_of(self.slots.len(), name);
+        match first_at(self.slots.as_slice(), slot) {
+            Some(first) => {
+                if !is_named(entries, first, name) {
+                    place_in(&mut self.by_name, name, place)?;
+                }
+                Ok(())
+            }
+            None => put(&mut self.slots, slot, place),
         }
-        let found = place_in(&mut self.by_name, name, place)?;
-        Ok(found)
     }
+}
+
+/// Puts a place into a slot.
+fn put(slots: &mut Vec<u32>, slot: usize, place: usize) -> Result<(), NoMemory>
+    requires { slot < length slots.old.items }
+    ensures ok { OnOk result ((n : ℕ) → first_at slots.new.items n
+        ≡ (if nat_eq slot n then Some place else first_at slots.old.items n)) }
+    ensures err { OnErr result (slots.new ≡ slots.old) }
+    ensures len { length slots.new.items ≡ length slots.old.items }
+{
+    if place >= EMPTY as usize {
+        return Err(NoMemory);
+    }
+    slots[slot] = place as u32;
+    Ok(())
 }
 
 /// The place that a name has in a map, or else this one, which it gets.
@@ -88,33 +138,51 @@ fn place_in<'a>(
     }
 }
 
-/// The first name with the number of this name, and its place. Where there is none, this name with this place becomes
-/// it.
-fn first_with<'a>(
-    by_number: &mut BTreeMap<u64, (&'a [u8], usize)>,
-    name: &'a [u8],
-    place: usize,
-) -> Result<(&'a [u8], usize), NoMemory>
-    ensures first { IfOk result (λ first. FirstIs
-        (get_by (nat_cmp (number_of name.now)) by_number.old) name.now place first) }
-    ensures ok { IfOk result (λ first. (n : ℕ) → get_by (nat_cmp n) by_number.new
-        ≡ (if nat_eq (number_of name.now) n then Some first else get_by (nat_cmp n) by_number.old)) }
-    ensures err { OnErr result (IsUnchanged by_number.old by_number.new) }
+/// The place in a slot, or none where the slot is empty.
+fn first_at(slots: &[u32], slot: usize) -> Option<usize>
+    requires { slot < length slots.now }
+    ensures { result ≡ first_at slots.now slot }
 {
-    match by_number.entry(number_of(name)) {
-        Ok(entry) => Ok(*entry.or_insert((name, place))),
-        Err(_) => Err(NoMemory),
+    let first = slots[slot];
+    if first == EMPTY {
+        return None;
+    }
+    Some(first as usize)
+}
+
+/// Whether the entry at a place has this name.
+fn is_named<V>(entries: &[(&Name, V)], place: usize, name: &[u8]) -> bool
+    ensures { result ≡ is_named (slice_get entries.now place) name.now }
+{
+    match entries.get(place) {
+        Some(entry) => entry.0.as_bytes() == name,
+        None => false,
     }
 }
 
-/// A name as a number to the base 257, of which the lowest 64 bits are kept. Names that differ only near their ends
-/// have numbers that are near each other, so names that follow each other in a file mostly stand together in a map.
+/// How many slots so many entries get.
+fn slots_for(entries: usize) -> usize
+    ensures { 0 < result }
+{
+    entries.saturating_mul(4).saturating_add(4)
+}
+
+/// The slot of a name, where there are so many: it stands among them where the name's number stands among all numbers.
+fn slot_of(count: usize, name: &[u8]) -> usize
+    requires { 0 < count }
+    ensures value { result ≡ slot_of count name.now }
+    ensures within { result < count }
+{
+    (u128::from(number_of(name)) * count as u128 / (1 << 64)) as usize
+}
+
+/// The number of a name: each byte is added, and the sum is multiplied, of which the lowest 64 bits are kept.
 fn number_of(name: &[u8]) -> u64
     ensures { result ≡ number_of name.now }
 {
     let mut number: u64 = 0;
     for byte in name {
-        number = number.wrapping_mul(257).wrapping_add(u64::from(*byte));
+        number = number.wrapping_add(u64::from(*byte)).wrapping_mul(FACTOR);
     }
     number
 }

@@ -1,9 +1,8 @@
-ghost use Rattle.std.specs.Prelude.{◌≡◌, ℕ, List, [], ◌∷◌, ◌++◌, not, if◌then◌else◌, length, slice_get, bytes_eq, Some, unwrap_or, IfOk, OnOk, OnErr};
+ghost use Rattle.std.specs.Prelude.{◌≡◌, ◌+◌, [], ◌∷◌, ◌++◌, not, length, take, slice_get, bytes_eq, IfOk, OnOk, OnErr};
 ghost use Rattle.std.specs.List.{position};
 ghost use Rattle.std.specs.Option.{option_copied, option_map};
-ghost use Rattle.vlog_elab.specs.inside.Agree.{Agrees, AgreesPastFew};
+ghost use Rattle.vlog_elab.specs.inside.Agree.{FindsPastFew};
 ghost use Rattle.vlog_elab.specs.Named.{named, place_of, is_there};
-ghost use Rattle.vlog_elab.specs.inside.Placed.{place_at};
 ghost use Rattle.vlog_elab.specs.inside.Walks.{with_new};
 
 use crate::name_positions::NamePositions;
@@ -25,7 +24,7 @@ pub struct Names<'a, V> {
 impl<'a, V> Model for Names<'a, V> {
     ghost use Rattle.std.specs.Prelude.{List, ℕ};
     ghost use Rattle.std.specs.Coded.{coded_list, coded_ℕ, coded×};
-    ghost use Rattle.vlog_elab.specs.inside.Agree.{texts, AgreesPastFew};
+    ghost use Rattle.vlog_elab.specs.inside.Agree.{texts, FindsPastFew};
 
     ghost Value = { List (List ℕ × V) };
 
@@ -33,7 +32,7 @@ impl<'a, V> Model for Names<'a, V> {
 
     ghost view = { λ names. texts names.entries.items };
 
-    ghost invariant = { λ names. AgreesPastFew names.places names.entries.items };
+    ghost invariant = { λ names. FindsPastFew names.places names.entries.items };
 }
 
 impl<'a, V: Drop> Names<'a, V> {
@@ -61,7 +60,7 @@ impl<'a, V: Drop> Names<'a, V> {
         if self.entries.len() <= FEW {
             return first_of(self.entries.as_slice(), name.as_bytes());
         }
-        self.places.get(name.as_bytes())
+        self.places.get(self.entries.as_slice(), name.as_bytes())
     }
 
     pub fn contains(&self, name: &Name) -> bool
@@ -106,14 +105,9 @@ impl<'a, V: Drop> Names<'a, V> {
         ensures err { OnErr result (self.new ≡ self.old) }
     {
         let place = self.entries.len();
-        if place < FEW {
-            self.entries.push((name, value))?;
-            return Ok(());
-        }
-        place_few(&mut self.places, &self.entries)?;
         self.entries.push((name, value))?;
-        match self.places.get_or_insert(name.as_bytes(), place) {
-            Ok(_) => Ok(()),
+        match take_up(&mut self.places, &self.entries, place) {
+            Ok(()) => Ok(()),
             Err(_) => {
                 self.entries.pop();
                 Err(NoMemory)
@@ -127,28 +121,11 @@ impl<'a, V: Drop> Names<'a, V> {
         ensures ok { OnOk result (self.new ≡ with_new self.old ((name.now, value) ∷ [])) }
         ensures err { OnErr result (self.new ≡ self.old) }
     {
-        let place = self.entries.len();
-        if place <= FEW {
-            if self.contains(name) {
-                return Ok(false);
-            }
-            self.push(name, value)?;
-            return Ok(true);
+        if self.contains(name) {
+            return Ok(false);
         }
-        self.entries.push((name, value))?;
-        match self.places.get_or_insert(name.as_bytes(), place) {
-            Ok(first) => {
-                if first == place {
-                    return Ok(true);
-                }
-                self.entries.pop();
-                Ok(false)
-            }
-            Err(_) => {
-                self.entries.pop();
-                Err(NoMemory)
-            }
-        }
+        self.push(name, value)?;
+        Ok(true)
     }
 }
 
@@ -159,29 +136,23 @@ fn first_of<V>(entries: &[(&Name, V)], name: &[u8]) -> Option<usize>
     entries.iter().position(|entry| name == entry.0.as_bytes())
 }
 
-/// Makes the map of these entries where there are few of them, for which none was kept.
-fn place_few<'a, V>(
+/// Takes up the last of these entries, at this place. Up to a few entries have no places.
+fn take_up<'a, V>(
     places: &mut NamePositions<'a>,
     entries: &Vec<(&'a Name, V)>,
+    place: usize,
 ) -> Result<(), NoMemory>
-    ensures ok { OnOk result (AgreesPastFew places.old entries.now.items
-        → Agrees (place_at places.new.by_number places.new.by_name) entries.now.items) }
-    ensures err { OnErr result (AgreesPastFew places.old entries.now.items
-        → AgreesPastFew places.new entries.now.items) }
+    requires last { length entries.now.items ≡ place + 1 }
+    requires before { FindsPastFew places.old (take place entries.now.items) }
+    ensures ok { OnOk result (FindsPastFew places.new entries.now.items) }
+    ensures err { OnErr result (FindsPastFew places.new (take place entries.now.items)) }
 {
-    if entries.len() <= FEW {
-        *places = places_of(*entries.allocator(), entries.as_slice())?;
+    if place < FEW {
+        return Ok(());
     }
+    if place > FEW && places.has_room(place) {
+        return places.add(entries.as_slice(), place);
+    }
+    *places = NamePositions::of(*entries.allocator(), entries.as_slice())?;
     Ok(())
-}
-
-/// The map of the places of these entries.
-fn places_of<'a, V>(alloc: Global, entries: &[(&'a Name, V)]) -> Result<NamePositions<'a>, NoMemory>
-    ensures { IfOk result (λ places. Agrees (place_at places.by_number places.by_name) entries.now) }
-{
-    let mut places = NamePositions::new(alloc);
-    for place in 0..entries.len() {
-        places.get_or_insert(entries[place].0.as_bytes(), place)?;
-    }
-    Ok(places)
 }
