@@ -82,13 +82,14 @@ finds-kept (Some first) o es e q same h =
 -- the entry is the first of its slot
 finds-first : {V : Type 0} (o : Option ℕ) (es : List (Bor (List ℕ) × V)) (e : Bor (List ℕ) × V) (q : List ℕ) → Finds None o es q → Finds (Some (length es)) o (es ++ e ∷ []) q
 finds-first o es e q h =
-    let more : length (es ++ e ∷ []) ≡ length es + 1 = length-more es e in
-    (omega (arith, more),
-     place-push es e q
-     ∙ ap (λ p. cond (is_some p) p (cond (bytes_eq q e.0.now) (Some (length es)) None)) h.0
-     ∙ ap (λ b. cond b (Some (length es)) None) (bytes_eq-sym q e.0.now)
-     ∙ ap (λ o. cond (bytes_eq e.0.now q) (Some (length es)) o) (sym h.1)
-     ∙ ap (λ x. cond (is_named x q) (Some (length es)) o) (sym (item-after es [] e)))
+    let more : length (es ++ e ∷ []) ≡ length es + 1 = length-more es e in (
+      omega (arith, more),
+      place-push es e q
+          ∙ ap (λ p. cond (is_some p) p (cond (bytes_eq q e.0.now) (Some (length es)) None)) h.0
+          ∙ ap (λ b. cond b (Some (length es)) None) (bytes_eq-sym q e.0.now)
+          ∙ ap (λ o. cond (bytes_eq e.0.now q) (Some (length es)) o) (sym h.1)
+          ∙ ap (λ x. cond (is_named x q) (Some (length es)) o) (sym (item-after es [] e)),
+    )
 
 each-first : {V : Type 0} (firsts after : ℕ → Option ℕ) (slot : List ℕ → ℕ) (others : List ℕ → Option ℕ) (es : List (Bor (List ℕ) × V)) (e : Bor (List ℕ) × V)
     → firsts (slot e.0.now) ≡ None → ((n : ℕ) → after n ≡ cond (nat_eq (slot e.0.now) n) (Some (length es)) (firsts n))
@@ -104,7 +105,7 @@ each-first {V} firsts after slot others es e none puts old q = at_b (nat_eq (slo
     at_b false h =
         let now : after (slot q) ≡ firsts (slot q) = puts (slot q) ∙ ap (λ b. cond b (Some (length es)) (firsts (slot q))) h in
         subst (λ f. Finds f (others q) (es ++ e ∷ []) q) (sym now)
-          (finds-kept (firsts (slot q)) (others q) es e q (place-apart es e q (other_name slot e.0.now q h)) (old q))
+        (finds-kept (firsts (slot q)) (others q) es e q (place-apart es e q (other_name slot e.0.now q h)) (old q))
 
 -- an entry of its name is the first of its slot
 each-again : {V : Type 0} (firsts others : List ℕ → Option ℕ) (es : List (Bor (List ℕ) × V)) (e : Bor (List ℕ) × V) (first : ℕ)
@@ -143,7 +144,7 @@ each-other {V} firsts others after es e first found there other says puts old q 
         ∙ first-other (others n) (length es) found says in
         let named : is_named (slice_get (es ++ e ∷ []) first) n ≡ false = ap (λ x. is_named x n) (slice_get-kept es e first below) ∙ other in
         subst (λ f. Finds f (after n) (es ++ e ∷ []) n) (sym there)
-          (omega (arith, below, more), placed ∙ sym now ∙ sym (ap (λ b. cond b (Some first) (after n)) named))
+        (omega (arith, below, more), placed ∙ sym now ∙ sym (ap (λ b. cond b (Some first) (after n)) named))
 
     at_b : (b : Bool) → bytes_eq n q ≡ b → Finds (firsts q) (after q) (es ++ e ∷ []) q
     at_b true h = subst (λ q. Finds (firsts q) (after q) (es ++ e ∷ []) q) (same_name n q h) own
@@ -190,7 +191,7 @@ next-first {V} slots after by_name entries place e name within is same len none 
     ∙ ap (λ place. cond (nat_eq (slot_of (length slots) e.0.now) n) (Some place) (first_at slots n)) (sym here) in
     let each = each-first (first_at slots) (first_at after) (slot_of (length slots)) (others_of by_name) (take place entries) e empty put old.each in
     next after by_name entries place e within is (subst (λ n. 0 < n) (sym len) old.some)
-      (λ q. subst (λ n. Finds (first_at after (slot_of n q)) (others_of by_name q) (take place entries ++ e ∷ []) q) (sym len) (each q))
+    (λ q. subst (λ n. Finds (first_at after (slot_of n q)) (others_of by_name q) (take place entries ++ e ∷ []) q) (sym len) (each q))
 
 -- the first of its slot is below the place
 first-below : {V : Type 0} (slots : List ℕ) (by_name : BTreeMap (Bor (List ℕ)) ℕ) (entries : List (Bor (List ℕ) × V)) (place first : ℕ) (name : List ℕ)
@@ -207,9 +208,9 @@ pub next-again : {V : Type 0} (slots : List ℕ) (by_name : BTreeMap (Bor (List 
 next-again {V} slots by_name entries place e name first within is same there own old =
     let own_taken : is_named (slice_get (take place entries) first) name ≡ true = ap (λ x. is_named x name) (first-below slots by_name entries place first name there old) ∙ own in
     next slots by_name entries place e within is old.some
-      (each-again (λ q. first_at slots (slot_of (length slots) q)) (others_of by_name) (take place entries) e first
-        (subst (λ n. first_at slots (slot_of (length slots) n) ≡ Some first) same there)
-        (subst (λ n. is_named (slice_get (take place entries) first) n ≡ true) same own_taken) old.each)
+    (each-again (λ q. first_at slots (slot_of (length slots) q)) (others_of by_name) (take place entries) e first
+    (subst (λ n. first_at slots (slot_of (length slots) n) ≡ Some first) same there)
+    (subst (λ n. is_named (slice_get (take place entries) first) n ≡ true) same own_taken) old.each)
 
 -- it hasn't, and the name goes into the map
 pub next-other : {V : Type 0} (slots : List ℕ) (by_name after : BTreeMap (Bor (List ℕ)) ℕ) (entries : List (Bor (List ℕ) × V)) (place : ℕ) (e : Bor (List ℕ) × V) (name : List ℕ) (first found : ℕ)
@@ -223,10 +224,10 @@ next-other {V} slots by_name after entries place e name first found within is sa
     let says_here : found ≡ unwrap_or (others_of by_name e.0.now) (length (take place entries))
     = says ∙ ap (λ n. unwrap_or (others_of by_name n) place) same ∙ ap (λ n. unwrap_or (others_of by_name e.0.now) n) (sym here) in
     next slots after entries place e within is old.some
-      (each-other (λ q. first_at slots (slot_of (length slots) q)) (others_of by_name) (others_of after) (take place entries) e first found
-        (subst (λ n. first_at slots (slot_of (length slots) n) ≡ Some first) same there)
-        (subst (λ n. is_named (slice_get (take place entries) first) n ≡ false) same other_taken) says_here
-        (λ q. puts q ∙ ap (λ n. cond (bytes_eq n q) (Some found) (others_of by_name q)) same) old.each)
+    (each-other (λ q. first_at slots (slot_of (length slots) q)) (others_of by_name) (others_of after) (take place entries) e first found
+    (subst (λ n. first_at slots (slot_of (length slots) n) ≡ Some first) same there)
+    (subst (λ n. is_named (slice_get (take place entries) first) n ≡ false) same other_taken) says_here
+    (λ q. puts q ∙ ap (λ n. cond (bytes_eq n q) (Some found) (others_of by_name q)) same) old.each)
 
 -- a map with the same entries finds the same
 pub finds-unchanged : {V : Type 0} (slots : List ℕ) (by_name after : BTreeMap (Bor (List ℕ)) ℕ) (entries : List (Bor (List ℕ) × V))
