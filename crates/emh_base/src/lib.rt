@@ -27,7 +27,7 @@ pub use ids::{BlockKey, InstId, ModId, NetId, OccKey};
 pub use laws::each_spelled_once;
 pub use list::List;
 pub use memory::NoMemory;
-pub use name::{NAME_LIMIT, Name, NameFault};
+pub use name::{LentName, NAME_LIMIT, Name, NameFault};
 pub use path::Path;
 pub use placement::{Orient, Placement, Status};
 pub use places::Places;

@@ -63,13 +63,17 @@ impl<T> List<T> {
         self.items.get(at)
     }
 
-    /// Puts an item last. After want of memory the list is as before.
+    /// Puts an item last. After want of memory the list is as before. The first item gets room for one, as many lists
+    /// stay that short; from then on the room doubles.
     pub fn push(&mut self, item: T) -> Result<(), NoMemory>
     where
         T: Drop,
         ensures ok { OnOk result (self.new ≡ self.old ++ item ∷ []) }
         ensures err { OnErr result (self.new ≡ self.old) }
     {
+        if self.items.capacity() == 0 {
+            self.items.reserve_exact(1)?;
+        }
         self.items.push(item)?;
         Ok(())
     }

@@ -67,9 +67,7 @@ impl Name {
         }
         match first_unfit(bytes) {
             Some(at) => Err(NameFault::BadByte { at: at as u32 }),
-            None => Ok(Name {
-                bytes: List::from_slice(alloc, bytes)?,
-            }),
+            None => Ok(LentName::new(bytes).to_name(alloc)?),
         }
     }
 
@@ -86,6 +84,50 @@ impl TryCopy for Name {
     fn copy(&self) -> Result<Name, NoMemory> {
         Ok(Name {
             bytes: self.bytes.copy()?,
+        })
+    }
+}
+
+/// The bytes of a name, lent by the text in which they stand.
+#[derive(Debug, Drop)]
+pub struct LentName<'a> {
+    bytes: &'a [u8],
+}
+
+impl<'a> Model for LentName<'a> {
+    ghost use Rattle.std.specs.Prelude.{List, ℕ};
+    ghost use Rattle.emh_base.specs.Name.{IsName};
+
+    ghost Value = { List ℕ };
+
+    ghost view = { λ name. name.bytes.now };
+
+    ghost invariant = { λ name. IsName name.bytes.now };
+}
+
+impl<'a> LentName<'a> {
+    /// These bytes, which are known to be a name's.
+    pub fn new(bytes: &'a [u8]) -> LentName<'a>
+        requires { IsName bytes.now }
+        ensures { result ≡ bytes.now }
+    {
+        LentName { bytes }
+    }
+
+    /// The bytes, which are a name's.
+    pub fn as_bytes(&self) -> &'a [u8]
+        ensures value { result.now ≡ self.now }
+        ensures name { IsName self.now }
+    {
+        self.bytes
+    }
+
+    /// The name, with bytes of its own.
+    pub fn to_name(&self, alloc: Global) -> Result<Name, NoMemory>
+        ensures { IfOk result (λ name. name ≡ self.now) }
+    {
+        Ok(Name {
+            bytes: List::from_slice(alloc, self.bytes)?,
         })
     }
 }

@@ -10,14 +10,6 @@ use Rattle.emh_base.specs.Name.{is_name_byte, IsName}
 use Rattle.vlog_lex.specs.Byte.{is_word_byte, begins_word, is_digit}
 use Rattle.vlog_lex.specs.Place.{IsRun}
 
--- each byte of a list that passes a test
-all_at : (test : ℕ → Bool) (bytes : List ℕ) (k : ℕ) → list_all test bytes ≡ true → k < length bytes
-    → test (get_or bytes k 0) ≡ true
-all_at test [] k all within = absurd (omega arith)
-all_at test (byte ∷ bytes) zero all within = (and_parts (test byte) (list_all test bytes) all).0
-all_at test (byte ∷ bytes) (suc k) all within =
-    all_at test bytes k (and_parts (test byte) (list_all test bytes) all).1 (omega arith)
-
 -- a list each byte of which passes a test
 all_from : (test : ℕ → Bool) (bytes : List ℕ) → ((k : ℕ) → k < length bytes → test (get_or bytes k 0) ≡ true)
     → list_all test bytes ≡ true
@@ -25,14 +17,6 @@ all_from test [] each = refl
 all_from test (byte ∷ bytes) each =
     and_from (test byte) (list_all test bytes) (each 0 (omega arith))
     (all_from test bytes (λ k within. each (suc k) (omega arith)))
-
--- a name has no byte that may not stand in one
-pub no_bad_byte : (text : List ℕ) (at : ℕ) → IsName text → position (λ byte. not (is_name_byte byte)) text ≡ Some at
-    → ⊥
-no_bad_byte text at name bad =
-    let (within, unfit, first) = position-Some (λ byte. not (is_name_byte byte)) text at 0 bad in
-    both_ways (is_name_byte (get_or text at 0)) (not-true (is_name_byte (get_or text at 0)) unfit)
-    (all_at is_name_byte text at name.printable within)
 
 -- the bytes from one place to another, each of which may stand in a name
 pub range_is_name : (bytes : List ℕ) (a b : ℕ) → a < b → b ≤ a + 1024 → b ≤ length bytes

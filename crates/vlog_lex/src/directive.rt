@@ -27,7 +27,7 @@ fn directive_of(name: &[u8]) -> Directive
 }
 
 /// The directive at a backtick.
-pub fn directive(bytes: &[u8], at: usize) -> Result<Found, LexFault>
+pub fn directive(bytes: &[u8], at: usize) -> Result<Found<'_>, LexFault>
     requires place { at < length bytes.now }
     requires limit { length bytes.now ≤ FILE_LIMIT }
     ensures { Finds (PieceBy Case.Directive bytes.now at) result }
@@ -43,7 +43,7 @@ pub fn directive(bytes: &[u8], at: usize) -> Result<Found, LexFault>
 }
 
 /// The rest of a `` `default_nettype `` at a place whose name ends before `name_end`.
-fn default_nettype(bytes: &[u8], at: usize, name_end: usize) -> Result<Found, LexFault>
+fn default_nettype(bytes: &[u8], at: usize, name_end: usize) -> Result<Found<'_>, LexFault>
     requires order { at < name_end }
     requires within { name_end ≤ length bytes.now }
     requires limit { length bytes.now ≤ FILE_LIMIT }

@@ -4,14 +4,14 @@ use crate::token::TokenKind;
 
 /// What stands at a place: where it ends, and its token unless it is passed over.
 #[derive(Drop)]
-pub struct Found {
+pub struct Found<'a> {
     pub end: usize,
-    pub token: Option<TokenKind>,
+    pub token: Option<TokenKind<'a>>,
 }
 
-impl Found {
+impl<'a> Found<'a> {
     /// A piece that is passed over.
-    pub fn blank(end: usize) -> Found
+    pub fn blank(end: usize) -> Found<'a>
         ensures end { result.end ≡ end }
         ensures none { result.token ≡ None }
     {
@@ -19,9 +19,9 @@ impl Found {
     }
 
     /// A token.
-    pub fn token(end: usize, kind: TokenKind) -> Found
+    pub fn token(end: usize, kind: TokenKind<'a>) -> Found<'a>
         ensures end { result.end ≡ end }
-        ensures some { result.token ≡ Some kind }
+        ensures some { result.token ≡ Some kind.entry }
     {
         Found {
             end,

@@ -11,7 +11,7 @@ use emh_base::{FILE_LIMIT, List};
 use std::alloc::Global;
 
 /// The tokens of a netlist, or its first fault from the left. Each byte is looked at a bounded number of times.
-pub fn tokens(alloc: Global, bytes: &[u8]) -> Result<Tokens, LexFault>
+pub fn tokens(alloc: Global, bytes: &[u8]) -> Result<Tokens<'_>, LexFault>
     requires { length bytes.now ≤ FILE_LIMIT }
     ensures tokens { IfOk result (λ read. Lexes bytes.now read.items) }
     ensures len { IfOk result (λ read. read.len ≡ length bytes.now) }
@@ -29,7 +29,7 @@ pub fn tokens(alloc: Global, bytes: &[u8]) -> Result<Tokens, LexFault>
 }
 
 /// The same, piece by piece.
-fn read(alloc: Global, bytes: &[u8]) -> Result<Tokens, LexFault>
+fn read(alloc: Global, bytes: &[u8]) -> Result<Tokens<'_>, LexFault>
     requires { length bytes.now ≤ FILE_LIMIT }
     ensures tokens { IfOk result (λ read. Lexes bytes.now read.items) }
     ensures len { IfOk result (λ read. read.len ≡ length bytes.now) }
@@ -38,7 +38,7 @@ fn read(alloc: Global, bytes: &[u8]) -> Result<Tokens, LexFault>
     let mut items = List::new(alloc);
     let mut at = 0;
     while at < bytes.len() {
-        let Found { end, token } = piece(alloc, bytes, at)?;
+        let Found { end, token } = piece(bytes, at)?;
         if let Some(kind) = token {
             items.push(Token {
                 kind,

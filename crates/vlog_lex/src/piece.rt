@@ -1,4 +1,4 @@
-ghost use Rattle.std.specs.Prelude.{◌≡◌, ◌+◌, ◌<◌, ◌≤◌, ◌^◌, true, false, None, length, position, bytes_eq, slice_index, slice_range, IsTrue, IfOk, IfErr};
+ghost use Rattle.std.specs.Prelude.{◌≡◌, ◌+◌, ◌<◌, ◌≤◌, ◌^◌, true, false, None, length, position, bytes_eq, slice_index, slice_range, IsTrue};
 ghost use Rattle.std.specs.Option.{SomeIff};
 ghost use Rattle.emh_base.specs.Name.{IsName};
 ghost use Rattle.word_table.specs.Reserved.{reserved_texts};
@@ -15,12 +15,11 @@ use crate::found::Found;
 use crate::number::{are_digits, base_of, decimal, low_bits};
 use crate::place::{byte_at, comment_end, line_end};
 use crate::token::{LexFault, TokenKind};
-use emh_base::{FILE_LIMIT, NAME_LIMIT, Name, NameFault};
-use std::alloc::Global;
+use emh_base::{FILE_LIMIT, LentName, NAME_LIMIT};
 use word_table::reserved_words;
 
 /// What stands at a place: the first rule that applies there is taken.
-pub fn piece(alloc: Global, bytes: &[u8], at: usize) -> Result<Found, LexFault>
+pub fn piece(bytes: &[u8], at: usize) -> Result<Found<'_>, LexFault>
     requires place { at < length bytes.now }
     requires limit { length bytes.now ≤ FILE_LIMIT }
     ensures { Finds (Piece bytes.now at) result }
@@ -31,8 +30,8 @@ pub fn piece(alloc: Global, bytes: &[u8], at: usize) -> Result<Found, LexFault>
         Case::BlockComment => block_comment(bytes, at),
         Case::Attribute => attribute(bytes, at),
         Case::Directive => directive(bytes, at),
-        Case::Escaped => escaped(alloc, bytes, at),
-        Case::Word => word(alloc, bytes, at),
+        Case::Escaped => escaped(bytes, at),
+        Case::Word => word(bytes, at),
         Case::Number => number(bytes, at),
         Case::Apostrophe => Err(LexFault::BadLiteral { at: at as u32 }),
         Case::Mark => Ok(Found::token(at + 1, TokenKind::Mark(bytes[at]))),
@@ -60,7 +59,7 @@ fn case_of(first: u8, second: u8) -> Case
 }
 
 /// The comment at a `/*`.
-fn block_comment(bytes: &[u8], at: usize) -> Result<Found, LexFault>
+fn block_comment(bytes: &[u8], at: usize) -> Result<Found<'_>, LexFault>
     requires place { at + 2 ≤ length bytes.now }
     requires limit { length bytes.now ≤ FILE_LIMIT }
     ensures { Finds (PieceBy Case.BlockComment bytes.now at) result }
@@ -72,7 +71,7 @@ fn block_comment(bytes: &[u8], at: usize) -> Result<Found, LexFault>
 }
 
 /// The attribute at a `(*`.
-fn attribute(bytes: &[u8], at: usize) -> Result<Found, LexFault>
+fn attribute(bytes: &[u8], at: usize) -> Result<Found<'_>, LexFault>
     requires place { at + 2 ≤ length bytes.now }
     requires limit { length bytes.now ≤ FILE_LIMIT }
     ensures { Finds (PieceBy Case.Attribute bytes.now at) result }
@@ -84,7 +83,7 @@ fn attribute(bytes: &[u8], at: usize) -> Result<Found, LexFault>
 }
 
 /// The escaped identifier at a backslash.
-fn escaped(alloc: Global, bytes: &[u8], at: usize) -> Result<Found, LexFault>
+fn escaped(bytes: &[u8], at: usize) -> Result<Found<'_>, LexFault>
     requires place { at < length bytes.now }
     requires limit { length bytes.now ≤ FILE_LIMIT }
     ensures { Finds (PieceBy Case.Escaped bytes.now at) result }
@@ -99,12 +98,12 @@ fn escaped(alloc: Global, bytes: &[u8], at: usize) -> Result<Found, LexFault>
     if end > at + 1 + NAME_LIMIT {
         return Err(LexFault::LongName { at: at as u32 });
     }
-    let name = name_of(alloc, &bytes[at + 1..end])?;
+    let name = LentName::new(&bytes[at + 1..end]);
     Ok(Found::token(end, TokenKind::Ident(name)))
 }
 
 /// The word that begins at a place.
-fn word(alloc: Global, bytes: &[u8], at: usize) -> Result<Found, LexFault>
+fn word(bytes: &[u8], at: usize) -> Result<Found<'_>, LexFault>
     requires place { at < length bytes.now }
     requires limit { length bytes.now ≤ FILE_LIMIT }
     requires first { IsTrue (begins_word (slice_index bytes.now at)) }
@@ -114,22 +113,20 @@ fn word(alloc: Global, bytes: &[u8], at: usize) -> Result<Found, LexFault>
     if end > at + NAME_LIMIT {
         return Err(LexFault::LongName { at: at as u32 });
     }
-    let kind = word_kind(alloc, &bytes[at..end])?;
-    Ok(Found::token(end, kind))
+    Ok(Found::token(end, word_kind(&bytes[at..end])))
 }
 
 /// A reserved word, or else the identifier of that name.
-fn word_kind(alloc: Global, text: &[u8]) -> Result<TokenKind, LexFault>
+fn word_kind(text: &[u8]) -> TokenKind<'_>
     requires { IsName text.now }
-    ensures ok { IfOk result (λ kind. kind ≡ word_kind text.now) }
-    ensures err { IfErr result (λ fault. fault ≡ LexFault.NoMemory) }
+    ensures { result ≡ word_kind text.now }
 {
     if !begins_as_reserved(text) {
-        return Ok(TokenKind::Ident(name_of(alloc, text)?));
+        return TokenKind::Ident(LentName::new(text));
     }
     match reserved_words().find(text) {
-        Some(row) => Ok(TokenKind::Reserved(row)),
-        None => Ok(TokenKind::Ident(name_of(alloc, text)?)),
+        Some(row) => TokenKind::Reserved(row),
+        None => TokenKind::Ident(LentName::new(text)),
     }
 }
 
@@ -143,23 +140,8 @@ fn begins_as_reserved(text: &[u8]) -> bool
     text.len() > 1 && text[0] >= b'a' && text[1] >= b'a'
 }
 
-/// The name of bytes that are known to be one's.
-fn name_of(alloc: Global, text: &[u8]) -> Result<Name, LexFault>
-    requires { IsName text.now }
-    ensures ok { IfOk result (λ name. name ≡ text.now) }
-    ensures err { IfErr result (λ fault. fault ≡ LexFault.NoMemory) }
-{
-    match Name::new(alloc, text) {
-        Ok(name) => Ok(name),
-        Err(NameFault::NoMemory) => Err(LexFault::NoMemory),
-        Err(NameFault::Empty) => unreachable!("a name has a byte"),
-        Err(NameFault::TooLong) => unreachable!("a name is short"),
-        Err(NameFault::BadByte { .. }) => unreachable!("a name is printable"),
-    }
-}
-
 /// The number or literal that begins at a place.
-fn number(bytes: &[u8], at: usize) -> Result<Found, LexFault>
+fn number(bytes: &[u8], at: usize) -> Result<Found<'_>, LexFault>
     requires place { at < length bytes.now }
     requires limit { length bytes.now ≤ FILE_LIMIT }
     ensures { Finds (PieceBy Case.Number bytes.now at) result }
@@ -176,7 +158,12 @@ fn number(bytes: &[u8], at: usize) -> Result<Found, LexFault>
 }
 
 /// The literal at a place whose digits before the apostrophe write `size`, if that fits in 32 bits.
-fn literal(bytes: &[u8], at: usize, apostrophe: usize, size: Option<u32>) -> Result<Found, LexFault>
+fn literal(
+    bytes: &[u8],
+    at: usize,
+    apostrophe: usize,
+    size: Option<u32>,
+) -> Result<Found<'_>, LexFault>
     requires place { at ≤ apostrophe }
     requires within { apostrophe < length bytes.now }
     requires limit { length bytes.now ≤ FILE_LIMIT }

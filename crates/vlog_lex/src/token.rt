@@ -1,25 +1,25 @@
-use emh_base::{List, Name};
+use emh_base::{LentName, List};
 
-/// The tokens of a file in order, and how many bytes the file has.
+/// The tokens of a file in order, and how many bytes the file has. Their names are lent by the file's bytes.
 #[derive(Debug, Drop)]
-pub struct Tokens {
-    pub items: List<Token>,
+pub struct Tokens<'a> {
+    pub items: List<Token<'a>>,
     pub len: u32,
 }
 
 /// A token that stands from the byte at `at` to the byte before `end`, both counted from 0.
 #[derive(Debug, Drop)]
-pub struct Token {
-    pub kind: TokenKind,
+pub struct Token<'a> {
+    pub kind: TokenKind<'a>,
     pub at: u32,
     pub end: u32,
 }
 
 /// What a token is.
 #[derive(Debug, Drop)]
-pub enum TokenKind {
+pub enum TokenKind<'a> {
     /// An identifier; an escaped one without its backslash.
-    Ident(Name),
+    Ident(LentName<'a>),
     /// A reserved word, by its row in [`word_table::reserved_words`].
     Reserved(u16),
     /// `` `celldefine ``

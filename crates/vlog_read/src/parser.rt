@@ -12,7 +12,7 @@ use vlog_lex::Tokens;
 
 /// The tree of a file's tokens, or the fault at the first of them that no sentence has there. Each token is looked at a
 /// bounded number of times, and the stack that it takes is the same for all files.
-pub fn parse(alloc: Global, tokens: &Tokens) -> Result<Tree, ParseFault>
+pub fn parse(alloc: Global, tokens: &Tokens<'_>) -> Result<Tree, ParseFault>
     ensures tree { IfOk result (λ tree. Spells tree tokens.now.items) }
     ensures fault { IfErr result (UnlessNoMemory (HasFault tokens.now.len tokens.now.items)) }
 

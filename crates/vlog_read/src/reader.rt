@@ -10,7 +10,7 @@ use crate::fault::ParseFault;
 use crate::refusal::fault_at;
 use crate::tree::{At, Part};
 use crate::word;
-use emh_base::{Dir, TryCopy};
+use emh_base::Dir;
 use std::alloc::Global;
 use vlog_lex::{Token, TokenKind};
 
@@ -20,7 +20,7 @@ use vlog_lex::{Token, TokenKind};
 pub struct Reader<'a> {
     pub alloc: Global,
     /// The tokens that aren't read yet.
-    pub rest: &'a [Token],
+    pub rest: &'a [Token<'a>],
     /// How many bytes the file has: where it ends.
     pub len: u32,
 }
@@ -170,7 +170,7 @@ impl Reader<'_> {
         match self.rest {
             [token, rest @ ..] => match &token.kind {
                 TokenKind::Ident(name) => {
-                    let name = name.copy()?;
+                    let name = name.to_name(self.alloc)?;
                     self.rest = rest;
                     Ok(At { name, at: token.at })
                 }

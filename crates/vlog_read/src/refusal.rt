@@ -7,13 +7,13 @@ ghost use Rattle.vlog_read.specs.inside.Machine.Reads.{is_real};
 
 use crate::fault::ParseFault;
 use crate::word;
-use emh_base::{Name, NameFault};
+use emh_base::{LentName, NoMemory};
 use std::alloc::Global;
 use vlog_lex::{Token, TokenKind};
 use word_table::reserved_words;
 
 /// The fault at a token that may not stand where it does.
-pub fn fault_at(alloc: Global, token: &Token) -> ParseFault
+pub fn fault_at(alloc: Global, token: &Token<'_>) -> ParseFault
     ensures { is_real result ≡ true → result ≡ fault_at token.now }
 {
     match token.kind {
@@ -52,11 +52,8 @@ fn unsupported(alloc: Global, at: u32, text: &[u8]) -> ParseFault
     requires { IsName text.now }
     ensures { is_real result ≡ true → result ≡ Unsupported at text.now }
 {
-    match Name::new(alloc, text) {
+    match LentName::new(text).to_name(alloc) {
         Ok(word) => ParseFault::Unsupported { at, word },
-        Err(NameFault::NoMemory) => ParseFault::NoMemory,
-        Err(NameFault::Empty) => unreachable!("a word has a byte"),
-        Err(NameFault::TooLong) => unreachable!("a word is short"),
-        Err(NameFault::BadByte { .. }) => unreachable!("a word is printable"),
+        Err(NoMemory) => ParseFault::NoMemory,
     }
 }

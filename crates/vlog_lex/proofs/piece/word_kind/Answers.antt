@@ -3,12 +3,12 @@ use Rattle.word_table.specs.Reserved.{reserved_texts}
 use Rattle.vlog_lex.proofs.Rows.{position_is}
 use Rattle.vlog_lex.proofs.piece.word_kind.Goals as goal
 
-pub returns-in-Some-clause-ok : goal.returns-in-Some-clause-ok
-returns-in-Some-clause-ok c =
+pub returns-in-Some : goal.returns-in-Some
+returns-in-Some c =
     let tells = rw c.reserved_words.ensures at c.in-Some.ensures.row in
     rw (position_is reserved_texts c.args.text.now (Some c.in-Some.row) tells) refl
 
-pub returns-in_ok-name_of-in-None-clause-ok : goal.returns-in_ok-name_of-in-None-clause-ok
-returns-in_ok-name_of-in-None-clause-ok c =
+pub returns-in-None : goal.returns-in-None
+returns-in-None c =
     let tells = rw c.reserved_words.ensures at c.in-None.ensures.row in
-    rw (position_is reserved_texts c.args.text.now None tells, c.in_ok-name_of-in-None.ensures.ok) refl
+    rw (position_is reserved_texts c.args.text.now None tells, c.new-in-None.ensures) refl
