@@ -1,5 +1,5 @@
 -- What elaboration answers, from its parts.
-use Rattle.std.proofs.Common.{arith, ◌≡◌, ℕ, zero, suc, ◌+◌, ◌-◌, ◌<◌, ◌≤◌, [], ◌∷◌, ◌++◌, Bool, Option, Some, None, List, length, slice_get, refl, sym, ◌∙◌, ap, inl, inr}
+use Rattle.std.proofs.Common.{arith, ◌≡◌, ℕ, zero, suc, ◌+◌, ◌-◌, ◌<◌, ◌≤◌, [], ◌∷◌, ◌++◌, Bool, Option, Some, None, List, length, slice_get, refl, ◌∙◌, ap, inl, inr}
 use Rattle.std.specs.Prelude.{IsSomeAnd}
 use Rattle.std.proofs.lemmas.List.{length-append}
 use Rattle.std.proofs.lemmas.Option.{slice_get_within}
@@ -22,14 +22,13 @@ use Rattle.vlog_elab.specs.inside.Walk.{Found}
 use Rattle.vlog_elab.proofs.Numbering.{length-numbered}
 
 -- the table that is made is the one that is built
-pub made-is : (M : Plain) (all_leaf : Bool) (tree : Tree) (k : Known) (ms : List TModule) (rows : List PModule) → ms ≡ tree.modules → k ≡ known M all_leaf tree.modules
+pub made-is : (M : Plain) (all_leaf : Bool) (tree : Tree) (k : Known) (ms : List TModule) (rows : List PModule) → ms ≡ tree.modules → k ≡ known M all_leaf ms
     → rows ≡ M.modules ++ numbered (row k.interfaces all_leaf) M.next_module (added M ms) → record { modules = rows; next_module = k.next_module } ≡ built M all_leaf tree
 unfolding built
 made-is M all_leaf tree k ms rows same is made =
-    let e : rows ≡ M.modules ++ numbered (row (interfaces M all_leaf tree.modules) all_leaf) M.next_module (added M tree.modules)
-    = made ∙ ap (λ (k : Known). M.modules ++ numbered (row k.interfaces all_leaf) M.next_module (added M ms)) is
-    ∙ ap (λ ms. M.modules ++ numbered (row (interfaces M all_leaf tree.modules) all_leaf) M.next_module (added M ms)) same in
-    rw (e, is) refl
+    let e : rows ≡ M.modules ++ numbered (row (interfaces M all_leaf ms) all_leaf) M.next_module (added M ms)
+    = made ∙ ap (λ (k : Known). M.modules ++ numbered (row k.interfaces all_leaf) M.next_module (added M ms)) is in
+    rw (e, is, same) refl
 
 -- a place that holds a module is one of the table's, or of a module that is added
 pub place-within : (M : Plain) (all_leaf : Bool) (fs : Named Interface) (ms : List TModule) (rows : List PModule) (P : PModule → Type 0) (place : ℕ)
@@ -85,5 +84,5 @@ fault-of_cycle M all_leaf tree place e passed on_cycle within says = at_o (slice
         at_e NoMemory f = tt
 
 -- the interfaces that are known are those of the text
-pub interfaces-known : (M : Plain) (all_leaf : Bool) (tree : Tree) (k : Known) (ms : List TModule) → ms ≡ tree.modules → k ≡ known M all_leaf tree.modules → k.interfaces ≡ interfaces M all_leaf ms
-interfaces-known M all_leaf tree k ms same is = ap (λ (k : Known). k.interfaces) is ∙ ap (interfaces M all_leaf) (sym same)
+pub interfaces-known : (M : Plain) (all_leaf : Bool) (k : Known) (ms : List TModule) → k ≡ known M all_leaf ms → k.interfaces ≡ interfaces M all_leaf ms
+interfaces-known M all_leaf k ms is = ap (λ (k : Known). k.interfaces) is

@@ -10,8 +10,7 @@ use Rattle.flatten_rules.proofs.Walks.{find-own}
 use Rattle.vlog_elab.specs.Named.{Named, named, is_there, place_of, firsts, numbered}
 use Rattle.vlog_elab.specs.inside.Walks.{with_new}
 use Rattle.vlog_elab.proofs.Each.{all_none, all_cons, all_head, all_tail, pairs_none, pairs_head, pairs_tail, numbered_rise}
-use Rattle.vlog_elab.proofs.Naming.{same_name, bytes_eq-refl}
-use Rattle.vlog_elab.proofs.Meeting.{firsts-from_none}
+use Rattle.vlog_elab.proofs.Naming.{same_name, bytes_eq-refl, firsts-from_none}
 
 -- what holds of each entry holds of a name and its value
 pub all_named : {V : Type 0} (P : List ℕ × V → Type 0) (es : Named V) (q : List ℕ) (v : V) → All P es → named es q ≡ Some v → P (q, v)

@@ -1,5 +1,5 @@
 -- The second round in a module: its walk is the checks of the definition.
-use Rattle.std.proofs.Common.{arith, ◌≡◌, suc, ◌≤◌, [], ◌∷◌, ◌++◌, None, Some, Option, true, false, List, map, length, refl, ◌∙◌, ap, nat_eq, Result, Ok, Err}
+use Rattle.std.proofs.Common.{arith, ◌≡◌, suc, ◌≤◌, [], ◌∷◌, ◌++◌, None, Some, Option, true, false, List, map, length, refl, ◌∙◌, ap, nat_eq, Result}
 use Rattle.std.specs.Prelude.{◌||◌, ◌==◌, not, is_some, is_none}
 use Rattle.std.specs.List.{flat_map}
 use Rattle.std.proofs.lemmas.List.{append-nil}
@@ -14,7 +14,7 @@ use Rattle.flatten_rules.specs.Check.{first_broken}
 use Rattle.vlog_elab.specs.Named.{Named, firsts}
 use Rattle.vlog_elab.specs.Steps.{Step, Connects, Uses, Fits, conn_steps, steps, net_at, inst_at, met}
 use Rattle.vlog_elab.specs.Connections.{port_named, ports_named, mixes, conn_checks, inner_checks}
-use Rattle.vlog_elab.specs.inside.Walk.{first_fault, at_end, Found, Passed, Fails, Walks, Checks}
+use Rattle.vlog_elab.specs.inside.Walk.{first_fault, at_end, Found, Passed, Fails, Walks}
 use Rattle.vlog_elab.specs.inside.Walks.{with_new, after_step, step_walk}
 use Rattle.vlog_elab.proofs.Naming.{firsts-append}
 use Rattle.vlog_elab.proofs.Walking.{or-none, found-along, fails-before, fails-then, walks-then, flat_map-push, walked, known-at_end}
@@ -83,6 +83,8 @@ pub met-walk : (before : List Step) → met before ≡ at_end step_walk (record 
 met-walk before = known-at_end step_walk met met-more [] before
 
 -- what the walk through a module gives, as its checks
-pub inner-give : {T : Type 0} (interfaces : Named Interface) (m : TModule) (s t : Scope) (r : Result T ElabFault) → s ≡ record { nets = []; insts = [] } → Walks step_walk s (steps interfaces m) r t → Checks (inner_checks interfaces m) r
-inner-give interfaces m s t (Ok v) e p = inner_checks-walk interfaces m ∙ (rw (← e) p.none)
-inner-give interfaces m s t (Err fault) e q = found-along _ _ fault (inner_checks-walk interfaces m) (rw (← e) q.found)
+pub inner-passes : (interfaces : Named Interface) (m : TModule) (s t : Scope) → s ≡ record { nets = []; insts = [] } → Passed step_walk s (steps interfaces m) t → first_broken (inner_checks interfaces m) ≡ None
+inner-passes interfaces m s t e p = inner_checks-walk interfaces m ∙ (rw (← e) p.none)
+
+pub inner-fails : (interfaces : Named Interface) (m : TModule) (s : Scope) (fault : ElabFault) → s ≡ record { nets = []; insts = [] } → Fails step_walk s (steps interfaces m) fault → Found (first_broken (inner_checks interfaces m)) fault
+inner-fails interfaces m s fault e q = found-along _ _ fault (inner_checks-walk interfaces m) (rw (← e) q.found)

@@ -10,7 +10,6 @@ pub mod Joining
 pub mod Rounds
 pub mod Rising
 pub mod Building
-pub mod Meeting
 pub mod Sourcing
 pub mod Passing
 pub mod Finding

@@ -24,7 +24,7 @@ use Rattle.vlog_elab.specs.Text.{header_decls, range_of}
 use Rattle.vlog_elab.specs.Steps.{Step, Declares, Places, Connects, Uses, Fits, decl_steps, conn_steps, inst_steps, item_steps, steps, net_at, inst_at, met}
 use Rattle.vlog_elab.specs.Connections.{step_checks, inner_checks}
 use Rattle.vlog_elab.specs.Table.{part_net, name_net, decl_nets, conn_nets, inst_nets, item_nets, nets, insts_in, insts}
-use Rattle.vlog_elab.specs.inside.Walk.{at_end}
+use Rattle.vlog_elab.specs.inside.Walk.{at_end, Passed}
 use Rattle.vlog_elab.specs.inside.Walks.{with_new, after_step, step_walk}
 use Rattle.vlog_elab.proofs.Each.{all_none, pairs_none}
 use Rattle.vlog_elab.proofs.Naming.{there-append, there-one, same_name}
@@ -132,6 +132,10 @@ pub at_last : (fs : Named Interface) (m : TModule) → at_end step_walk (record 
 at_last fs m =
     let end : met (steps fs m) ≡ at_end step_walk (record { nets = []; insts = [] }) (steps fs m) = met-walk (steps fs m) in
     sym end ∙ (rw (steps_mention fs m, steps_place fs m) refl)
+
+-- the nets at the end of the walk through a module are the module's
+pub nets-met : (fs : Named Interface) (m : TModule) (s t : Scope) → s ≡ record { nets = []; insts = [] } → Passed step_walk s (steps fs m) t → t.nets ≡ nets m
+nets-met fs m s t is p = ap (λ (t : Scope). t.nets) (p.end ∙ ap (λ (s : Scope). at_end step_walk s (steps fs m)) is ∙ at_last fs m)
 
 -- Names of a module differ.
 

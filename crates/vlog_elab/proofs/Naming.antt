@@ -14,7 +14,7 @@ use Rattle.std.proofs.lemmas.Bool.Decides.{same_from_decides}
 use Rattle.std.specs.Bool.{Decides}
 use Rattle.flatten_rules.specs.Check.{each_after}
 use Rattle.flatten_rules.proofs.FirstBroken.{each_after-append}
-use Rattle.vlog_elab.specs.Named.{place_of, named, is_there, firsts}
+use Rattle.vlog_elab.specs.Named.{Named, place_of, named, is_there, firsts}
 use Rattle.vlog_elab.specs.inside.Walks.{with_new}
 use Rattle.vlog_elab.specs.inside.Agree.{texts}
 
@@ -159,6 +159,10 @@ pub firsts-append : {V : Type 0} (es fs : List (List ℕ × V)) → firsts (es +
 firsts-append es [] = ap firsts (append-nil es)
 firsts-append es (f ∷ fs) =
     ap firsts (sym (append_assoc es (f ∷ []) fs)) ∙ firsts-append (es ++ f ∷ []) fs ∙ ap (λ es. with_new es fs) (firsts-push es f)
+
+-- and from nothing on
+pub firsts-from_none : {V : Type 0} (es : Named V) → with_new [] es ≡ firsts es
+firsts-from_none es = sym (firsts-append [] es)
 
 -- Places in joined lists.
 

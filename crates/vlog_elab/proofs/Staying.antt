@@ -35,7 +35,7 @@ use Rattle.flatten_rules.specs.Check.{first_broken, each_after}
 use Rattle.vlog_elab.specs.Named.{Named, named, is_there, numbered}
 use Rattle.vlog_elab.specs.Text.{is_leaf}
 use Rattle.vlog_elab.specs.Interfaces.{has_module, added, ports, interface, interfaces, known, row_port_on, row_port, row_face}
-use Rattle.vlog_elab.specs.Declarations.{name_check, inside_checks, entry_checks, module_checks, declaration_checks}
+use Rattle.vlog_elab.specs.Declarations.{declaration_checks}
 use Rattle.vlog_elab.specs.Connections.{inner_checks, connection_checks}
 use Rattle.vlog_elab.specs.Table.{row, built}
 use Rattle.vlog_elab.specs.Elaboration.{checks}
@@ -47,14 +47,13 @@ use Rattle.vlog_elab.specs.Counters.{HasCounters, IsCountable}
 use Rattle.vlog_elab.proofs.Counters.{table-counters, modules-counted}
 use Rattle.vlog_elab.proofs.Each.{all_none, all_cons, all_head, all_tail, all_weaker, all_map_of, all_numbered_of, pairs_none, pairs_cons, pairs_head, pairs_tail, numbered_below}
 use Rattle.vlog_elab.proofs.Rising.{modules_rise}
-use Rattle.vlog_elab.proofs.Rounds.{checks-rounds}
-use Rattle.vlog_elab.proofs.Declaring.{module-parts}
+use Rattle.vlog_elab.proofs.Rounds.{checks-rounds, insides_pass, second_round}
 use Rattle.vlog_elab.proofs.Knowing.{known-walk, known-none}
-use Rattle.vlog_elab.proofs.Passing.{none_left, none_right, flat_passes, each_passes}
+use Rattle.vlog_elab.proofs.Passing.{none_left, flat_passes}
 use Rattle.vlog_elab.proofs.Finding.{Differ, all_named, apart_push}
 use Rattle.vlog_elab.proofs.Fitting.{all_unmap}
-use Rattle.vlog_elab.proofs.Saying.{PassesInside, passes_inside, all_front}
-use Rattle.vlog_elab.proofs.Header.{leaf_passes, pairs_map_both}
+use Rattle.vlog_elab.proofs.Saying.{PassesInside, all_front}
+use Rattle.vlog_elab.proofs.Header.{pairs_map_both}
 use Rattle.vlog_elab.proofs.Connected.{IsFaceOf, HasModule, find_place}
 use Rattle.vlog_elab.proofs.Row.{Other, pairs_map, face_of, row_sound}
 
@@ -63,30 +62,15 @@ pub record Passes (fs : Named Interface) (all_leaf : Bool) (m : TModule) : Type 
   pub inside : PassesInside (is_leaf all_leaf m) m
   pub inner : first_broken (inner_checks fs m) ≡ None
 
-passes : (fs : Named Interface) (all_leaf : Bool) (m : TModule) → first_broken (inside_checks (is_leaf all_leaf m) m) ≡ None → first_broken (if is_leaf all_leaf m then [] else inner_checks fs m) ≡ None → Passes fs all_leaf m
-passes fs all_leaf m one two =
-    let p : PassesInside (is_leaf all_leaf m) m = passes_inside (is_leaf all_leaf m) m one in
-    record { inside = p; inner = at_b (is_leaf all_leaf m) p two }
-  where
-    at_b : (b : Bool) → PassesInside b m → first_broken (cond b [] (inner_checks fs m)) ≡ None → first_broken (inner_checks fs m) ≡ None
-    at_b true p h = leaf_passes fs m p
-    at_b false p h = h
-
 all_pass : (M : Plain) (all_leaf : Bool) (tree : Tree) → first_broken (checks M all_leaf tree) ≡ None → All (Passes (interfaces M all_leaf tree.modules) all_leaf) tree.modules
 all_pass M all_leaf tree h =
     let fs : Named Interface = interfaces M all_leaf tree.modules in
-    let both = sym (checks-rounds M all_leaf tree) ∙ h in
-    let one : All (λ (m : TModule). first_broken (inside_checks (is_leaf all_leaf m) m) ≡ None) tree.modules
-    = each_passes (λ before m. module_checks all_leaf (known M all_leaf before) m) (λ (m : TModule). first_broken (inside_checks (is_leaf all_leaf m) m) ≡ None)
-    (λ before m g.
-    let k : Known = known M all_leaf before in
-    let parts = sym (module-parts all_leaf k m) ∙ g in
-    none_left (first_broken (inside_checks (is_leaf all_leaf m) m)) (first_broken (entry_checks k (ports m) m)) (none_right (first_broken (name_check (is_leaf all_leaf m) k m ∷ [])) _ parts))
-    [] tree.modules (none_left (first_broken (declaration_checks M all_leaf tree.modules)) (first_broken (connection_checks M all_leaf tree.modules)) both) in
-    let two : All (λ (m : TModule). first_broken (if is_leaf all_leaf m then [] else inner_checks fs m) ≡ None) tree.modules
-    = flat_passes (λ (m : TModule). if is_leaf all_leaf m then [] else inner_checks fs m) tree.modules
-    (none_right (first_broken (declaration_checks M all_leaf tree.modules)) (first_broken (connection_checks M all_leaf tree.modules)) both) in
-    λ k d lt. passes fs all_leaf (get_or tree.modules k d) (one k d lt) (two k d lt)
+    let declared : first_broken (declaration_checks M all_leaf tree.modules) ≡ None
+    = none_left (first_broken (declaration_checks M all_leaf tree.modules)) (first_broken (connection_checks M all_leaf tree.modules)) (sym (checks-rounds M all_leaf tree) ∙ h) in
+    let inside : All (λ (m : TModule). PassesInside (is_leaf all_leaf m) m) tree.modules = insides_pass M all_leaf tree.modules declared in
+    let inner : All (λ (m : TModule). first_broken (inner_checks fs m) ≡ None) tree.modules
+    = flat_passes (inner_checks fs) tree.modules (sym (second_round M all_leaf tree (known M all_leaf tree.modules) tree.modules refl declared refl) ∙ h) in
+    λ k d lt. record { inside = inside k d lt; inner = inner k d lt }
 
 -- the modules that are added are the text's
 all_added : (P : TModule → Type 0) (M : Plain) (before ms : List TModule) → All P ms → All P (each_after (λ before (m : TModule). if has_module M before m.name.name then [] else m ∷ []) before ms)

@@ -1,22 +1,21 @@
 //! The second round: nets, instances and connections.
-ghost use Rattle.std.specs.Prelude.{◌≡◌, [], ◌∷◌, ◌++◌, map, length, None, Some, IfOk, OnOk, if◌then◌else◌};
+ghost use Rattle.std.specs.Prelude.{◌≡◌, [], ◌∷◌, ◌++◌, map, length, None, Some, IfOk, OnOk};
 ghost use Rattle.std.specs.List.{flat_map};
 ghost use Rattle.std.specs.Option.{option_copied};
 ghost use Rattle.vlog_read.specs.declared.tree.At.{At};
-ghost use Rattle.vlog_read.specs.declared.tree.TModule.{TModule};
 ghost use Rattle.vlog_elab.specs.declared.interface.Interface.{Interface};
 ghost use Rattle.vlog_elab.specs.declared.scope.Scope.{Scope};
 ghost use Rattle.flatten_rules.specs.Check.{each_after};
 ghost use Rattle.vlog_elab.specs.Named.{named, place_of};
-ghost use Rattle.vlog_elab.specs.Text.{is_leaf, header_decls, range_of};
+ghost use Rattle.vlog_elab.specs.Text.{header_decls, range_of};
 ghost use Rattle.vlog_elab.specs.Steps.{Declares, Places, Connects, Uses, Fits, decl_steps, conn_steps, inst_steps, item_steps, steps};
 ghost use Rattle.vlog_elab.specs.Connections.{is_implied, port_named, ports_named, port_place, mixes, conn_checks, inner_checks};
+ghost use Rattle.vlog_elab.specs.Table.{nets};
 ghost use Rattle.vlog_elab.specs.inside.Walk.{Walks, Checks};
 ghost use Rattle.vlog_elab.specs.inside.Walks.{with_new, step_walk};
 
 use crate::fault::{ElabFault, ElabKind, fault, fault_at};
 use crate::interface::{Interface, Port};
-use crate::modules::is_leaf;
 use crate::names::Names;
 use crate::scope::{Net, Scope, meet, net_range};
 use crate::select::{fits, has_index, has_indices};
@@ -24,36 +23,18 @@ use emh_base::{Name, NoMemory, Range};
 use std::alloc::Global;
 use vlog_read::{At, Decl, Header, Item, Part, TConn, TInst, TModule};
 
-/// Looks at the connections of the modules that aren't leaves, where all modules have these interfaces.
-pub fn check_connections(
+/// Looks at the connections of a module, where all modules have these interfaces, and answers the module's nets.
+pub fn check_module<'a>(
     alloc: Global,
-    all_leaf: bool,
     interfaces: &Names<'_, Interface<'_>>,
-    modules: &[TModule],
-) -> Result<(), ElabFault>
-    ensures { Checks (flat_map
-        (λ (m : TModule). if is_leaf all_leaf m then [] else inner_checks interfaces.now m)
-        modules.now) result }
+    m: &'a TModule,
+) -> Result<Names<'a, Net>, ElabFault>
+    ensures checks { Checks (inner_checks interfaces.now m.now) result }
+    ensures nets { IfOk result (λ made. made ≡ nets m.now) }
 {
-    for m in modules {
-        check_module(alloc, all_leaf, interfaces, m)?;
-    }
-    Ok(())
-}
-
-fn check_module(
-    alloc: Global,
-    all_leaf: bool,
-    interfaces: &Names<'_, Interface<'_>>,
-    m: &TModule,
-) -> Result<(), ElabFault>
-    ensures { Checks (if is_leaf all_leaf m.now then [] else inner_checks interfaces.now m.now) result }
-{
-    if is_leaf(all_leaf, m) {
-        return Ok(());
-    }
     let mut scope = Scope::new(alloc);
-    walk_module(alloc, interfaces, &mut scope, m)
+    walk_module(alloc, interfaces, &mut scope, m)?;
+    Ok(scope.nets)
 }
 
 fn walk_module<'a>(

@@ -6,11 +6,11 @@ ghost use Rattle.vlog_elab.specs.declared.fault.ElabFault.{ElabFault};
 ghost use Rattle.flatten_rules.specs.Check.{first_broken};
 ghost use Rattle.vlog_elab.specs.Named.{place_of};
 ghost use Rattle.vlog_elab.specs.Interfaces.{added, interfaces, known};
-ghost use Rattle.vlog_elab.specs.Elaboration.{checks, Elaborates, HasFault, UnlessNoMemory};
+ghost use Rattle.vlog_elab.specs.Declarations.{declaration_checks};
+ghost use Rattle.vlog_elab.specs.Elaboration.{Elaborates, HasFault, UnlessNoMemory};
 ghost use Rattle.vlog_elab.specs.inside.Walk.{Found};
 ghost use Rattle.vlog_elab.specs.Counters.{HasCounters};
 
-use crate::connections::check_connections;
 use crate::fault::{ElabFault, ElabKind, fault};
 use crate::interface::{Interface, Known};
 use crate::modules::{add_modules, known_of};
@@ -39,42 +39,41 @@ pub fn elab(alloc: Global, table: &Plain, tree: &Tree, all_leaf: bool) -> Result
     rounds(alloc, table, tree, all_leaf)
 }
 
-/// The three rounds, one after the other.
+/// The three rounds, one after the other. The second one makes the rows of the modules on its way.
 fn rounds(alloc: Global, table: &Plain, tree: &Tree, all_leaf: bool) -> Result<Plain, ElabFault>
     requires { IsSound table.now }
     ensures table { IfOk result (Elaborates table.now all_leaf tree.now) }
     ensures counters { IfOk result (λ made. All HasCounters made.modules) }
     ensures fault { IfErr result (UnlessNoMemory (HasFault table.now all_leaf tree.now)) }
 {
-    let known = checked(alloc, table, tree, all_leaf)?;
-    let modules = rows_of(alloc, table, &known.interfaces, tree.modules.as_slice())?;
+    let modules = tree.modules.as_slice();
+    let known = declared(alloc, table, modules, all_leaf)?;
+    let rows = rows_of(alloc, table, &known.interfaces, modules)?;
     let plain = Plain {
-        modules,
+        modules: rows,
         next_module: known.next_module,
     };
     match first_on_cycle(alloc, &plain, table.modules.len())? {
-        Some(place) => Err(recursive(table, &known.interfaces, tree.modules.as_slice(), place)),
+        Some(place) => Err(recursive(table, &known.interfaces, modules, place)),
         None => Ok(plain),
     }
 }
 
-/// What is known of all modules, where no rule of the first two rounds is broken.
-fn checked<'a>(
+/// What is known of all modules, where no rule of the first round is broken.
+fn declared<'a>(
     alloc: Global,
     table: &'a Plain,
-    tree: &'a Tree,
+    modules: &'a [TModule],
     all_leaf: bool,
 ) -> Result<Known<'a>, ElabFault>
     requires { IsSound table.now }
     ensures { MatchResult result
-        (λ made. (first_broken (checks table.now all_leaf tree.now) ≡ None)
-        × (made ≡ known table.now all_leaf tree.now.modules))
-        (Found (first_broken (checks table.now all_leaf tree.now))) }
+        (λ made. (first_broken (declaration_checks table.now all_leaf modules.now) ≡ None)
+        × (made ≡ known table.now all_leaf modules.now))
+        (Found (first_broken (declaration_checks table.now all_leaf modules.now))) }
 {
-    let modules = tree.modules.as_slice();
     let mut known = known_of(alloc, table)?;
     add_modules(alloc, all_leaf, &mut known, modules)?;
-    check_connections(alloc, all_leaf, &known.interfaces, modules)?;
     Ok(known)
 }
 

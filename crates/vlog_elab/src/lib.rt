@@ -12,7 +12,6 @@ mod law;
 mod modules;
 mod name_positions;
 mod names;
-mod nets;
 mod ports;
 mod reads;
 mod rows;

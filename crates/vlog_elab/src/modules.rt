@@ -152,7 +152,7 @@ fn enter<'a>(
     Ok(())
 }
 
-pub fn is_leaf(all_leaf: bool, m: &TModule) -> bool
+fn is_leaf(all_leaf: bool, m: &TModule) -> bool
     ensures { result ≡ is_leaf all_leaf m.now }
 {
     all_leaf || m.marked

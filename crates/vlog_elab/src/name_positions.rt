@@ -4,8 +4,9 @@ ghost use Rattle.std.specs.Ordering.{nat_cmp};
 ghost use Rattle.std.specs.Cmp.Lexicographic.{slice_cmp};
 ghost use Rattle.std.specs.BTreeMap.{get_by, IsUnchanged};
 ghost use Rattle.vlog_elab.specs.Named.{place_of};
-ghost use Rattle.vlog_elab.specs.inside.Agree.{texts, is_named, FindsEach};
-ghost use Rattle.vlog_elab.specs.inside.Placed.{number_of, slot_of, first_at};
+ghost use Rattle.vlog_elab.specs.declared.name_positions.Look.TheVariants.{Free};
+ghost use Rattle.vlog_elab.specs.inside.Agree.{texts, is_named, look_at, look_up, FindsEach};
+ghost use Rattle.vlog_elab.specs.inside.Placed.{number_of, slot_of, place_at};
 
 use emh_base::{Name, NoMemory};
 use std::alloc::Global;
@@ -20,15 +21,26 @@ const EMPTY: u32 = u32::MAX;
 
 /// Where each of some entries stands, by its name. The entries themselves are kept by the caller.
 ///
-/// A name has a slot, by a number that is made of its bytes, and the place of the first name of a slot stands in it. A
-/// name whose slot another one has is in an ordered map of names. Of names that aren't chosen for it few share a slot,
-/// so most are found by one look into their slot; names that all share one cost what the ordered map costs.
+/// A name has two slots that stand side by side, by a number that is made of its bytes, and its place stands in the first
+/// of them that was free. A name that found neither free is in an ordered map of names. Of names that aren't chosen for
+/// it few come to that, so most are found by one or two looks; names that all share their slots cost what the map costs.
 #[derive(Drop)]
 pub struct NamePositions<'a> {
-    /// The place of the first name of each slot.
+    /// The places of names, each in a slot of its name.
     slots: Vec<u32>,
     /// The places of the other names.
     by_name: BTreeMap<&'a [u8], usize>,
+}
+
+/// Where a look for a name in its slots ends.
+#[derive(Clone, Copy)]
+enum Look {
+    /// At a slot that is free, so that the name isn't there.
+    Free(usize),
+    /// At the place of the name.
+    At(usize),
+    /// Past slots that other names have.
+    Past,
 }
 
 impl<'a> NamePositions<'a> {
@@ -42,7 +54,7 @@ impl<'a> NamePositions<'a> {
         }
     }
 
-    /// The places of these entries, with four slots for each.
+    /// The places of these entries, with six slots for each.
     pub fn of<V>(alloc: Global, entries: &[(&'a Name, V)]) -> Result<NamePositions<'a>, NoMemory>
         ensures { IfOk result (λ places. FindsEach places.slots.items places.by_name entries.now) }
     {
@@ -56,11 +68,11 @@ impl<'a> NamePositions<'a> {
         Ok(places)
     }
 
-    /// Whether there are two slots for each of so many entries and for one more.
+    /// Whether there are three slots for each of so many entries and for one more.
     pub fn has_room(&self, entries: usize) -> bool
-        ensures { result ≡ nat_lt entries (length self.now.slots.items / 2) }
+        ensures { result ≡ nat_lt entries (length self.now.slots.items / 3) }
     {
-        entries < self.slots.len() / 2
+        entries < self.slots.len() / 3
     }
 
     /// The place of a name among the entries.
@@ -68,14 +80,10 @@ impl<'a> NamePositions<'a> {
         requires { FindsEach self.now.slots.items self.now.by_name entries.now }
         ensures { result ≡ place_of (texts entries.now) name.now }
     {
-        match first_at(self.slots.as_slice(), slot_of(self.slots.len(), name)) {
-            Some(first) => {
-                if is_named(entries, first, name) {
-                    return Some(first);
-                }
-                self.by_name.get(name).copied()
-            }
-            None => None,
+        match look_up(self.slots.as_slice(), entries, name) {
+            Look::Free(_) => None,
+            Look::At(place) => Some(place),
+            Look::Past => self.by_name.get(name).copied(),
         }
     }
 
@@ -90,15 +98,42 @@ impl<'a> NamePositions<'a> {
             (take place entries.now)) }
     {
         let name = entries[place].0.as_bytes();
-        let slot = slot_of(self.slots.len(), name);
-        match first_at(self.slots.as_slice(), slot) {
-            Some(first) => {
-                if !is_named(entries, first, name) {
-                    place_in(&mut self.by_name, name, place)?;
-                }
+        match look_up(self.slots.as_slice(), entries, name) {
+            Look::Free(slot) => put(&mut self.slots, slot, place),
+            Look::At(_) => Ok(()),
+            Look::Past => {
+                place_in(&mut self.by_name, name, place)?;
                 Ok(())
             }
-            None => put(&mut self.slots, slot, place),
+        }
+    }
+}
+
+/// Looks for a name in its two slots.
+fn look_up<V>(slots: &[u32], entries: &[(&Name, V)], name: &[u8]) -> Look
+    requires { 1 < length slots.now }
+    ensures value { result ≡ look_up slots.now entries.now name.now }
+    ensures within { (slot : ℕ) → result ≡ Free slot → slot < length slots.now }
+{
+    let slot = slot_of(slots.len() - 1, name);
+    match look_at(slots, slot, entries, name) {
+        Look::Past => look_at(slots, slot + 1, entries, name),
+        ended => ended,
+    }
+}
+
+/// Looks for a name in one slot.
+fn look_at<V>(slots: &[u32], slot: usize, entries: &[(&Name, V)], name: &[u8]) -> Look
+    requires { slot < length slots.now }
+    ensures { result ≡ look_at slots.now slot entries.now name.now }
+{
+    match place_at(slots, slot) {
+        None => Look::Free(slot),
+        Some(first) => {
+            if is_named(entries, first, name) {
+                return Look::At(first);
+            }
+            Look::Past
         }
     }
 }
@@ -106,8 +141,8 @@ impl<'a> NamePositions<'a> {
 /// Puts a place into a slot.
 fn put(slots: &mut Vec<u32>, slot: usize, place: usize) -> Result<(), NoMemory>
     requires { slot < length slots.old.items }
-    ensures ok { OnOk result ((n : ℕ) → first_at slots.new.items n
-        ≡ (if nat_eq slot n then Some place else first_at slots.old.items n)) }
+    ensures ok { OnOk result ((n : ℕ) → place_at slots.new.items n
+        ≡ (if nat_eq slot n then Some place else place_at slots.old.items n)) }
     ensures err { OnErr result (slots.new ≡ slots.old) }
     ensures len { length slots.new.items ≡ length slots.old.items }
 {
@@ -139,9 +174,9 @@ fn place_in<'a>(
 }
 
 /// The place in a slot, or none where the slot is empty.
-fn first_at(slots: &[u32], slot: usize) -> Option<usize>
+fn place_at(slots: &[u32], slot: usize) -> Option<usize>
     requires { slot < length slots.now }
-    ensures { result ≡ first_at slots.now slot }
+    ensures { result ≡ place_at slots.now slot }
 {
     let first = slots[slot];
     if first == EMPTY {
@@ -162,12 +197,13 @@ fn is_named<V>(entries: &[(&Name, V)], place: usize, name: &[u8]) -> bool
 
 /// How many slots so many entries get.
 fn slots_for(entries: usize) -> usize
-    ensures { 0 < result }
+    ensures { 1 < result }
 {
-    entries.saturating_mul(4).saturating_add(4)
+    entries.saturating_mul(6).saturating_add(6)
 }
 
-/// The slot of a name, where there are so many: it stands among them where the name's number stands among all numbers.
+/// The first slot of a name, where there are so many and one more: it stands among them where the name's number stands
+/// among all numbers.
 fn slot_of(count: usize, name: &[u8]) -> usize
     requires { 0 < count }
     ensures value { result ≡ slot_of count name.now }

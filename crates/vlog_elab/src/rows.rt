@@ -7,39 +7,39 @@ ghost use Rattle.vlog_elab.specs.declared.scope.Net.{Net};
 ghost use Rattle.vlog_elab.specs.Named.{named, numbered};
 ghost use Rattle.vlog_elab.specs.Interfaces.{interface};
 ghost use Rattle.vlog_elab.specs.Counters.{HasCounters};
-ghost use Rattle.vlog_elab.specs.Table.{nets, net_row, port_row, inst_row, insts_in, insts, row};
+ghost use Rattle.vlog_elab.specs.Table.{nets as nets_of, net_row, port_row, inst_row, insts_in, insts, row};
 
 use crate::bits::{counter, net_id, number};
 use crate::conns::conns_of;
 use crate::interface::{Interface, Port};
 use crate::names::Names;
-use crate::nets::nets_of;
 use crate::scope::Net;
 use emh_base::{InstId, List, ModId, NetId, NoMemory, PInst, PModule, PNet, PPort, TryCopy};
 use std::alloc::Global;
 use vlog_read::{At, Item, TInst, TModule};
 
-/// The row of a module with this interface, where the modules of the table have these.
+/// The row of a module with this interface and these nets, where the modules of the table have these interfaces.
 pub fn row_of(
     alloc: Global,
     interfaces: &Names<'_, Interface<'_>>,
     own: &Interface<'_>,
     m: &TModule,
+    nets: &Names<'_, Net>,
 ) -> Result<PModule, NoMemory>
+    requires { nets.now ≡ nets_of m.now }
     ensures row { IfOk result (λ made. (all_leaf : Bool) (id : ℕ) → own.now
         ≡ (interface all_leaf id m.now).1
         → made ≡ row interfaces.now all_leaf id m.now) }
     ensures counters { IfOk result HasCounters }
 {
-    let nets = nets_of(alloc, m)?;
-    let insts = insts_of(alloc, interfaces, &nets, m)?;
+    let insts = insts_of(alloc, interfaces, nets, m)?;
     Ok(PModule {
         id: own.id,
         name: m.name.name.copy()?,
         leaf: own.leaf,
         locked: false,
-        nets: net_rows(alloc, &nets)?,
-        ports: port_rows(alloc, &nets, &own.ports)?,
+        nets: net_rows(alloc, nets)?,
+        ports: port_rows(alloc, nets, &own.ports)?,
         next_net: counter(nets.len())?,
         next_inst: counter(insts.len())?,
         insts,

@@ -6,10 +6,10 @@ use Rattle.std.specs.List.{fold}
 abbrev pub number_of : List ℕ → ℕ
 number_of name = fold (λ number byte. (number + byte) % 2 ^ 64 * FACTOR % 2 ^ 64) 0 name
 
--- the slot of a name, where there are so many: it stands among them where the number stands among all numbers
+-- the first slot of a name, where there are so many and one more: it stands among them where the number stands among all numbers
 abbrev pub slot_of : ℕ → List ℕ → ℕ
 slot_of count name = number_of name * count / 2 ^ 64
 
 -- the place in a slot, or none where the slot is empty
-abbrev pub first_at : List ℕ → ℕ → Option ℕ
-first_at slots slot = if nat_eq (get_or slots slot EMPTY) EMPTY then None else Some (get_or slots slot EMPTY)
+abbrev pub place_at : List ℕ → ℕ → Option ℕ
+place_at slots slot = if nat_eq (get_or slots slot EMPTY) EMPTY then None else Some (get_or slots slot EMPTY)
