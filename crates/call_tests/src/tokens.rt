@@ -20,7 +20,7 @@ fn shown(alloc: Global, bytes: &[u8]) -> Result<String, Fail> {
     Ok(text)
 }
 
-fn shown_token(alloc: Global, token: &Token) -> Result<String, Fail> {
+fn shown_token(alloc: Global, token: &Token<'_>) -> Result<String, Fail> {
     let Token { kind, at, end } = token;
     Ok(match kind {
         TokenKind::Ident(name) => format!(in alloc;

@@ -12,7 +12,7 @@ pub fn shown(alloc: Global, bytes: &[u8]) -> Result<List<u8>, Fail> {
 }
 
 /// What is read from tokens.
-pub fn shown_tokens(alloc: Global, read: &Tokens) -> Result<List<u8>, NoMemory> {
+pub fn shown_tokens(alloc: Global, read: &Tokens<'_>) -> Result<List<u8>, NoMemory> {
     let mut out = List::new(alloc);
     match parse(alloc, read) {
         Ok(tree) => show_tree(&mut out, &tree)?,
