@@ -10,3 +10,6 @@ pub mod TwiceLemmas
 pub mod EffectLemmas
 pub mod SetLemmas
 pub mod NameLemmas
+pub mod OnceLemmas
+pub mod WholeLemmas
+pub mod UserLemmas

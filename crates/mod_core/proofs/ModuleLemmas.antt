@@ -3,6 +3,7 @@ use Rattle.std.proofs.Common.{◌≡◌, ◌≢◌, ℕ, zero, suc, ◌+◌, ◌
 use Rattle.std.proofs.lemmas.Bool.{cases_eq}
 use Rattle.std.specs.List.{filter_map, cons_option}
 use Rattle.std.specs.FinMap as rows
+use Rattle.emh_base.specs.declared.plain.PInst.{PInst}
 use Rattle.emh_base.specs.declared.plain.PModule.{PModule}
 use Rattle.flatten_rules.specs.ModuleChanges.{empty_module, create_module, delete_module}
 use Rattle.undo_slots.specs.Slots.{Rows}
@@ -12,6 +13,7 @@ use Rattle.row_chains.specs.Chains.{first_or, IsChain, AreChains, walk, ends_wit
 use Rattle.row_chains.specs.Rows.{ChainRows, ChainHolders, links, listed, lead_at, ends_in}
 use Rattle.row_chains.proofs.KeyLemmas.{same_some, none_some}
 use Rattle.row_chains.proofs.ChainLemmas.{EndsChange, AreChains-owner, AreChains-no_owner}
+use Rattle.row_chains.proofs.LiveLemmas.{owner_live}
 use Rattle.row_chains.proofs.TableLemmas.{linked_row, keys-chain, get_same, get_other, seen-lead_at, seen-follow_at, appended_chains, appended_listed, place, detached_chains, detached_listed}
 use Rattle.mod_core.specs.declared.rows.TopRow.{TopRow}
 use Rattle.mod_core.specs.declared.rows.ModRow.{ModRow}
@@ -55,24 +57,22 @@ empty_listed C m ends_of chains f shows owner ends held none =
 at_most : (x : ℕ) → x ≤ x
 at_most x = omega arith
 
--- nets stay where the modules that have nets stay
-module _ (names : List (List ℕ)) (top : ℕ) (up : Upper) (nets : Rows NetRow) (g : IsGood (length names) top up nets) (mods' : Rows ModRow) (kept : (o : ℕ) (a : ModFace) → is_some (rows.get up.mods o) ≡ true → mod_faces mods' o ≡ Some a → mod_faces up.mods o ≡ Some a) where
-  nets_stay : (k : ℕ) (a : NetFace) (m : ModFace) → net_faces nets k ≡ Some a → mod_faces mods' a.owner ≡ Some m → WasCounted (mod_faces up.mods) a.owner m
-  nets_stay k a m at om = record { was = m; at = kept a.owner m (live (rows.get nets k) refl at) om; counted = at_most m.next_net }
+-- rows of modules stay where the modules that have such rows stay
+module _ {R : Type 0} (C : ChainRows R) (H : ChainHolders ModRow) (face : R → NetFace) (side : ModRow → ModFace) (m : Rows R) (mods mods' : Rows ModRow) (chains : AreChains (links C m) (ends_in H mods)) (owned : (r : R) → (l : Link) × ((C.link_of r ≡ Some l) × (l.owner ≡ (face r).owner)))
+    (kept : (o : ℕ) (a : ModFace) → is_some (rows.get mods o) ≡ true → option_map side (rows.get mods' o) ≡ Some a → option_map side (rows.get mods o) ≡ Some a) where
+  pub owner_counted : (k : ℕ) (a : NetFace) (b : ModFace) → option_map face (rows.get m k) ≡ Some a → option_map side (rows.get mods' a.owner) ≡ Some b → WasCounted (λ o. option_map side (rows.get mods o)) a.owner b
+  owner_counted k a b at om = record { was = b; at = kept a.owner b (live (rows.get m k) refl at) om; counted = at_most b.next_net }
     where
-      live : (o : Option NetRow) → rows.get nets k ≡ o → option_map net_face o ≡ Some a → is_some (rows.get up.mods a.owner) ≡ true
+      live : (o : Option R) → rows.get m k ≡ o → option_map face o ≡ Some a → is_some (rows.get mods a.owner) ≡ true
       live None is e = absurd (none_some a e)
       live (Some r) is e =
-          ap (λ z. is_some (rows.get up.mods z)) (ap (λ (z : NetFace). z.owner) (sym (same_some (net_face r) a e)))
-          ∙ there (rows.get up.mods r.link.owner) (g.nets_of.owned k r.link (ap (option_and_then net_rows.link_of) is))
-        where
-          there : (o : Option ModRow) → is_some (option_map net_holders.ends_of o) ≡ true → is_some o ≡ true
-          there None h = h
-          there (Some x) h = refl
+          let l = owned r in
+          ap (λ z. is_some (rows.get mods z)) (ap (λ (z : NetFace). z.owner) (sym (same_some (face r) a e)) ∙ sym l.1.1)
+          ∙ owner_live H (links C m) mods chains k l.0 (ap (option_and_then C.link_of) is ∙ l.1.0)
 
 -- a module comes last
-module _ (names : List (List ℕ)) (top : ℕ) (up : Upper) (nets : Rows NetRow) (g : IsGood (length names) top up nets) (key name : ℕ) (root : TopRow)
-    (was : rows.get up.tops top ≡ Some root) (absent : rows.get up.mods key ≡ None) (few : name < length names) where
+module _ (names : List (List ℕ)) (top : ℕ) (up : Upper) (nets : Rows NetRow) (within : Ends → List PInst) (g : IsGood (length names) top up nets) (key name : ℕ) (root : TopRow)
+    (was : rows.get up.tops top ≡ Some root) (absent : rows.get up.mods key ≡ None) (few : name < length names) (bare : within empty_chain ≡ []) where
   abbrev pub grown : TopRow
   grown = record root { next_module = root.next_module + 1; modules = ends_with root.modules key }
 
@@ -94,7 +94,7 @@ module _ (names : List (List ℕ)) (top : ℕ) (up : Upper) (nets : Rows NetRow)
   becomes : rows.get tops_in top ≡ Some grown
   becomes = get_same up.tops top (Some grown)
 
-  seen : {X : Type 0} (F : Option ModRow → X) → ((r : ModRow) (to : Option ℕ) → F (Some (mod_rows.lead r to)) ≡ F (Some r)) → (q : ℕ) → q ≢ key → F (rows.get mods_in q) ≡ F (rows.get up.mods q)
+  pub seen : {X : Type 0} (F : Option ModRow → X) → ((r : ModRow) (to : Option ℕ) → F (Some (mod_rows.lead r to)) ≡ F (Some r)) → (q : ℕ) → q ≢ key → F (rows.get mods_in q) ≡ F (rows.get up.mods q)
   seen F blind q d = seen-lead_at mod_rows F blind mid root.modules.last (Some key) q ∙ ap F (get_other up.mods key (Some new) q d)
 
   seen_new : {X : Type 0} (F : Option ModRow → X) → ((r : ModRow) (to : Option ℕ) → F (Some (mod_rows.lead r to)) ≡ F (Some r)) → F (rows.get mods_in key) ≡ F (Some new)
@@ -112,26 +112,32 @@ module _ (names : List (List ℕ)) (top : ℕ) (up : Upper) (nets : Rows NetRow)
   same_links : (q : ℕ) → q ≢ key → links mod_rows mid q ≡ links mod_rows up.mods q
   same_links q d = ap (option_and_then mod_rows.link_of) (get_other up.mods key (Some new) q d)
 
-  new_shown : module_shown names mods_in nets key ≡ Some (empty_module root.next_module (name_at names name))
+  new_shown : module_shown names mods_in nets within key ≡ Some (empty_module root.next_module (name_at names name))
   new_shown =
-      seen_new (option_map (module_of_row names nets)) (λ r to. refl)
-      ∙ (λ i. Some (record (empty_module root.next_module (name_at names name)) { nets = listed_none net_rows (net_shown names nets) nets i; ports = listed_none port_rows (port_shown nets) nets i }))
+      seen_new (option_map (module_of_row names nets within)) (λ r to. refl)
+      ∙ (λ i. Some (record (empty_module root.next_module (name_at names name)) { nets = listed_none net_rows (net_shown names nets) nets i; ports = listed_none port_rows (port_shown nets) nets i; insts = bare i }))
 
-  listed_in : modules_from names mods_in nets grown.modules ≡ modules_from names up.mods nets root.modules ++ empty_module root.next_module (name_at names name) ∷ []
-  listed_in = appended_listed mod_rows up.mods mid (ends_in mod_holders up.tops) (ends_in mod_holders tops_in) top key root.modules g.modules ends_change no_link new_link same_links (module_shown names up.mods nets) (module_shown names mods_in nets) (empty_module root.next_module (name_at names name))
-      (λ k d. seen (option_map (module_of_row names nets)) (λ r to. refl) k d) new_shown
+  listed_in : modules_from names mods_in nets within grown.modules ≡ modules_from names up.mods nets within root.modules ++ empty_module root.next_module (name_at names name) ∷ []
+  listed_in = appended_listed mod_rows up.mods mid (ends_in mod_holders up.tops) (ends_in mod_holders tops_in) top key root.modules g.modules ends_change no_link new_link same_links (module_shown names up.mods nets within) (module_shown names mods_in nets within) (empty_module root.next_module (name_at names name))
+      (λ k d. seen (option_map (module_of_row names nets within)) (λ r to. refl) k d) new_shown
 
   -- the table has the module
-  pub module_in_table : table_of names top (upper tops_in mods_in) nets ≡ create_module (table_of names top up nets) (name_at names name)
+  pub module_in_table : table_of names top (upper tops_in mods_in) nets within ≡ create_module (table_of names top up nets within) (name_at names name)
   module_in_table =
-      ap (table_from names mods_in nets) becomes
+      ap (table_from names mods_in nets within) becomes
       ∙ (λ i. record { modules = listed_in i; next_module = root.next_module + 1 })
-      ∙ sym (ap (λ o. create_module (table_from names up.mods nets o) (name_at names name)) was)
+      ∙ sym (ap (λ o. create_module (table_from names up.mods nets within o) (name_at names name)) was)
 
-  new_ends : (H : ChainHolders ModRow) → ((r : ModRow) (to : Option ℕ) → H.ends_of (mod_rows.lead r to) ≡ H.ends_of r) → H.ends_of new ≡ empty_chain → (row : ℕ → Option Link) → AreChains row (ends_in H up.mods) → AreChains row (ends_in H mods_in)
+  pub new_ends : (H : ChainHolders ModRow) → ((r : ModRow) (to : Option ℕ) → H.ends_of (mod_rows.lead r to) ≡ H.ends_of r) → H.ends_of new ≡ empty_chain → (row : ℕ → Option Link) → AreChains row (ends_in H up.mods) → AreChains row (ends_in H mods_in)
   new_ends H blind empty row chains =
       AreChains-owner row (ends_in H up.mods) (ends_in H mods_in) key (λ o d. seen (option_map H.ends_of) (λ r to. ap (λ z. Some z) (blind r to)) o d) chains (ap (option_map H.ends_of) absent)
       (seen_new (option_map H.ends_of) (λ r to. ap (λ z. Some z) (blind r to)) ∙ ap (λ z. Some z) empty)
+
+  pub not_new : (o : ℕ) → is_some (rows.get up.mods o) ≡ true → o ≢ key
+  not_new o live e = never (sym (ap is_some (ap (rows.get up.mods) e ∙ absent)) ∙ live)
+    where
+      never : false ≡ true → ⊥
+      never e = cc
 
   face_other : (o : ℕ) → o ≢ key → mod_faces mods_in o ≡ mod_faces up.mods o
   face_other o d = seen (option_map mod_face) (λ r to. refl) o d
@@ -140,6 +146,7 @@ module _ (names : List (List ℕ)) (top : ℕ) (up : Upper) (nets : Rows NetRow)
   module_in_good = record {
     root = grown;
     rooted = becomes;
+    alone = λ o r at. elim (cases_eq o top) [ inl e ↦ e | inr d ↦ g.alone o r (sym (get_other up.tops top (Some grown) o d) ∙ at) ];
     modules = appended_chains mod_rows up.mods mid (ends_in mod_holders up.tops) (ends_in mod_holders tops_in) top key root.modules g.modules ends_change no_link new_link same_links;
     nets_of = new_ends net_holders (λ r to. refl) refl (links net_rows nets) g.nets_of;
     ports_of = new_ends port_holders (λ r to. refl) refl (links port_rows nets) g.ports_of;
@@ -147,20 +154,11 @@ module _ (names : List (List ℕ)) (top : ℕ) (up : Upper) (nets : Rows NetRow)
         (mods_added (length names) g.root.next_module (mod_faces up.mods) (mod_faces mods_in) g.mods_numbered key (mod_face new) (seen_new (option_map mod_face) (λ r to. refl)) face_other (ap (λ (z : TopRow). z.next_module) (sym root_is)) few);
     nets_numbered = nets_from (length names) (mod_faces up.mods) (mod_faces mods_in) (net_faces nets) (net_faces nets) g.nets_numbered
         (λ k a at. record { was = a; at = at; owner = refl; id = refl; named = g.nets_numbered.named k a at; home = λ o h. g.nets_numbered.home k a o at h })
-        (nets_stay names top up nets g mods_in (λ o a live at. elim (cases_eq o key) [
-          | inl e ↦ absurd (gone o e live)
-          | inr d ↦ sym (face_other o d) ∙ at
-        ]));
+        (owner_counted net_rows net_holders net_face mod_face nets up.mods mods_in g.nets_of (λ r. (r.link, (refl, refl))) (λ o a live at. sym (face_other o (not_new o live)) ∙ at));
   }
-    where
-      gone : (o : ℕ) → o ≡ key → is_some (rows.get up.mods o) ≡ true → ⊥
-      gone o e live = never (sym (ap is_some (ap (rows.get up.mods) e ∙ absent)) ∙ live)
-        where
-          never : false ≡ true → ⊥
-          never e = cc
 
 -- a module without content goes
-module _ (names : List (List ℕ)) (top : ℕ) (up : Upper) (nets : Rows NetRow) (g : IsGood (length names) top up nets) (key : ℕ) (row : ModRow)
+module _ (names : List (List ℕ)) (top : ℕ) (up : Upper) (nets : Rows NetRow) (within : Ends → List PInst) (g : IsGood (length names) top up nets) (key : ℕ) (row : ModRow)
     (at : rows.get up.mods key ≡ Some row) (mine : row.link.owner ≡ top) (no_nets : row.nets.first ≡ None) (no_ports : row.ports.first ≡ None) where
   abbrev pub tops_out : Rows TopRow
   tops_out = joined_ends mod_holders up.tops row.link
@@ -180,10 +178,10 @@ module _ (names : List (List ℕ)) (top : ℕ) (up : Upper) (nets : Rows NetRow)
   becomes_out : rows.get tops_out row.link.owner ≡ Some shrunk
   becomes_out = get_same up.tops row.link.owner (option_map (λ r. mod_holders.with_ends r (ends_without (mod_holders.ends_of r) row.link)) (rows.get up.tops row.link.owner)) ∙ ap (option_map (λ r. mod_holders.with_ends r (ends_without (mod_holders.ends_of r) row.link))) was_out
 
-  gone : rows.get mods_out key ≡ None
+  pub gone : rows.get mods_out key ≡ None
   gone = get_same joined key None
 
-  left : {X : Type 0} (F : Option ModRow → X) → ((r : ModRow) (to : Option ℕ) → F (Some (mod_rows.lead r to)) ≡ F (Some r)) → ((r : ModRow) (from : Option ℕ) → F (Some (mod_rows.follow r from)) ≡ F (Some r)) → (q : ℕ) → q ≢ key → F (rows.get mods_out q) ≡ F (rows.get up.mods q)
+  pub left : {X : Type 0} (F : Option ModRow → X) → ((r : ModRow) (to : Option ℕ) → F (Some (mod_rows.lead r to)) ≡ F (Some r)) → ((r : ModRow) (from : Option ℕ) → F (Some (mod_rows.follow r from)) ≡ F (Some r)) → (q : ℕ) → q ≢ key → F (rows.get mods_out q) ≡ F (rows.get up.mods q)
   left F blind deaf q d =
       ap F (get_other joined key None q d)
       ∙ seen-follow_at mod_rows F deaf (lead_at mod_rows up.mods row.link.prev row.link.next) row.link.next row.link.prev q
@@ -213,32 +211,32 @@ module _ (names : List (List ℕ)) (top : ℕ) (up : Upper) (nets : Rows NetRow)
   abbrev keep : PModule → Bool
   keep other = not (other.id.0 == row.id.0)
 
-  mod_row : (k : ℕ) (o : Option ModRow) (y : PModule) → rows.get up.mods k ≡ o → k ≢ key → option_map (module_of_row names nets) o ≡ Some y → keep y ≡ true
+  mod_row : (k : ℕ) (o : Option ModRow) (y : PModule) → rows.get up.mods k ≡ o → k ≢ key → option_map (module_of_row names nets within) o ≡ Some y → keep y ≡ true
   mod_row k None y is d shows = absurd (none_some y shows)
   mod_row k (Some r) y is d shows =
-      ap (λ (z : PModule). not (z.id.0 == row.id.0)) (sym (same_some (module_of_row names nets r) y shows))
+      ap (λ (z : PModule). not (z.id.0 == row.id.0)) (sym (same_some (module_of_row names nets within r) y shows))
       ∙ ap not (unequal r.id.0 row.id.0 (λ e. d (g.mods_numbered.one k key (mod_face r) (mod_face row) (ap (option_map mod_face) is) (ap (option_map mod_face) at) e)))
 
-  listed_out : modules_from names mods_out nets shrunk.modules ≡ filter keep (modules_from names up.mods nets g.root.modules)
+  listed_out : modules_from names mods_out nets within shrunk.modules ≡ filter keep (modules_from names up.mods nets within g.root.modules)
   listed_out =
-      ap (λ (z : Ends). modules_from names mods_out nets (ends_without z row.link)) (sym held)
-      ∙ detached_listed mod_rows up.mods mods_out (ends_in mod_holders up.tops) (ends_in mod_holders tops_out) key row.link g.modules linked no_more as_joined (module_shown names up.mods nets) (module_shown names mods_out nets) keep (module_of_row names nets row)
-      (ap (option_map (module_of_row names nets)) at) (ap not (itself row.id.0))
+      ap (λ (z : Ends). modules_from names mods_out nets within (ends_without z row.link)) (sym held)
+      ∙ detached_listed mod_rows up.mods mods_out (ends_in mod_holders up.tops) (ends_in mod_holders tops_out) key row.link g.modules linked no_more as_joined (module_shown names up.mods nets within) (module_shown names mods_out nets within) keep (module_of_row names nets within row)
+      (ap (option_map (module_of_row names nets within)) at) (ap not (itself row.id.0))
       (λ k l y d there of shows. mod_row k (rows.get up.mods k) y refl d shows)
-      (λ k d. left (option_map (module_of_row names nets)) (λ r to. refl) (λ r from. refl) k d)
-      ∙ ap (λ (z : Ends). filter keep (modules_from names up.mods nets z)) held
+      (λ k d. left (option_map (module_of_row names nets within)) (λ r to. refl) (λ r from. refl) k d)
+      ∙ ap (λ (z : Ends). filter keep (modules_from names up.mods nets within z)) held
 
   becomes_top : rows.get tops_out top ≡ Some shrunk
   becomes_top = ap (rows.get tops_out) (sym mine) ∙ becomes_out
 
   -- the table is without the module
-  pub module_out_table : table_of names top (upper tops_out mods_out) nets ≡ delete_module (table_of names top up nets) row.id
+  pub module_out_table : table_of names top (upper tops_out mods_out) nets within ≡ delete_module (table_of names top up nets within) row.id
   module_out_table =
-      ap (table_from names mods_out nets) becomes_top
+      ap (table_from names mods_out nets within) becomes_top
       ∙ (λ i. record { modules = listed_out i; next_module = g.root.next_module })
-      ∙ sym (ap (λ o. delete_module (table_from names up.mods nets o) row.id) g.rooted)
+      ∙ sym (ap (λ o. delete_module (table_from names up.mods nets within o) row.id) g.rooted)
 
-  no_ends : (H : ChainHolders ModRow) → ((r : ModRow) (to : Option ℕ) → H.ends_of (mod_rows.lead r to) ≡ H.ends_of r) → ((r : ModRow) (from : Option ℕ) → H.ends_of (mod_rows.follow r from) ≡ H.ends_of r) → (H.ends_of row).first ≡ None → (links_of : ℕ → Option Link) → AreChains links_of (ends_in H up.mods) → AreChains links_of (ends_in H mods_out)
+  pub no_ends : (H : ChainHolders ModRow) → ((r : ModRow) (to : Option ℕ) → H.ends_of (mod_rows.lead r to) ≡ H.ends_of r) → ((r : ModRow) (from : Option ℕ) → H.ends_of (mod_rows.follow r from) ≡ H.ends_of r) → (H.ends_of row).first ≡ None → (links_of : ℕ → Option Link) → AreChains links_of (ends_in H up.mods) → AreChains links_of (ends_in H mods_out)
   no_ends H blind deaf empty links_of chains =
       AreChains-no_owner links_of (ends_in H up.mods) (ends_in H mods_out) key (λ o d. left (option_map H.ends_of) (λ r to. ap (λ z. Some z) (blind r to)) (λ r from. ap (λ z. Some z) (deaf r from)) o d) chains (H.ends_of row) (ap (option_map H.ends_of) at) empty (ap (option_map H.ends_of) gone)
 
@@ -254,6 +252,10 @@ module _ (names : List (List ℕ)) (top : ℕ) (up : Upper) (nets : Rows NetRow)
       record {
         root = shrunk;
         rooted = becomes_top;
+        alone = λ o r there. elim (cases_eq o row.link.owner) [
+          | inl e ↦ e ∙ mine
+          | inr d ↦ g.alone o r (sym (get_other up.tops row.link.owner (option_map (λ r. mod_holders.with_ends r (ends_without (mod_holders.ends_of r) row.link)) (rows.get up.tops row.link.owner)) o d) ∙ there)
+        ];
         modules = detached_chains mod_rows up.mods mods_out (ends_in mod_holders up.tops) (ends_in mod_holders tops_out) key row.link g.modules linked no_more as_joined (ends_out p.ends held);
         nets_of = no_ends net_holders (λ r to. refl) (λ r from. refl) no_nets (links net_rows nets) g.nets_of;
         ports_of = no_ends port_holders (λ r to. refl) (λ r from. refl) no_ports (links port_rows nets) g.ports_of;
@@ -261,5 +263,5 @@ module _ (names : List (List ℕ)) (top : ℕ) (up : Upper) (nets : Rows NetRow)
             (λ k a there. record { was = a; at = old_face k a there; id = refl; named = g.mods_numbered.named k a (old_face k a there) });
         nets_numbered = nets_from (length names) (mod_faces up.mods) (mod_faces mods_out) (net_faces nets) (net_faces nets) g.nets_numbered
             (λ k a there. record { was = a; at = there; owner = refl; id = refl; named = g.nets_numbered.named k a there; home = λ o h. g.nets_numbered.home k a o there h })
-            (nets_stay names top up nets g mods_out (λ o a live there. old_face o a there));
+            (owner_counted net_rows net_holders net_face mod_face nets up.mods mods_out g.nets_of (λ r. (r.link, (refl, refl))) (λ o a live there. old_face o a there));
       }

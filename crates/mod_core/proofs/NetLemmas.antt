@@ -4,7 +4,7 @@ use Rattle.std.proofs.lemmas.Bool.{cases_eq}
 use Rattle.std.specs.FinMap as rows
 use Rattle.emh_base.specs.declared.plain.Range.{Range}
 use Rattle.emh_base.specs.declared.plain.PNet.{PNet}
-use Rattle.flatten_rules.specs.Changes.{with_module}
+use Rattle.emh_base.specs.declared.plain.PInst.{PInst}
 use Rattle.flatten_rules.specs.NetChanges.{with_net, without_net}
 use Rattle.undo_slots.specs.Slots.{Rows}
 use Rattle.row_chains.specs.declared.link.Link.{Link}
@@ -16,15 +16,15 @@ use Rattle.row_chains.proofs.ChainLemmas.{EndsChange}
 use Rattle.row_chains.proofs.TableLemmas.{get_same, get_other, seen-lead_at, seen-follow_at, AreChains-same, listed-same, appended_chains, appended_listed, appended_other, place, detached_chains, detached_listed, detached_other}
 use Rattle.mod_core.specs.declared.rows.ModRow.{ModRow}
 use Rattle.mod_core.specs.declared.rows.NetRow.{NetRow}
-use Rattle.mod_core.specs.inside.Linked.{net_rows, net_holders, port_rows, port_holders, port_link, net_of_row, port_on, port_of_row, net_shown, port_shown, nets_from, ports_from, module_of_row, table_of, Upper, upper}
+use Rattle.mod_core.specs.inside.Linked.{net_rows, net_holders, port_rows, port_holders, port_link, net_of_row, port_on, port_of_row, net_shown, port_shown, nets_from, ports_from, module_of_row, Upper, upper}
 use Rattle.mod_core.specs.inside.Good.{mod_face, mod_faces, net_face, net_faces, IsGood}
 use Rattle.mod_core.specs.inside.Changes.{joined_rows, joined_ends, new_net}
 use Rattle.mod_core.specs.Mods.{name_at}
 use Rattle.mod_core.proofs.NumberLemmas.{nets_from as numbered_from, nets_added}
-use Rattle.mod_core.proofs.TableLemmas.{unequal, itself, changed_chains, changed_numbered, changed_counted, changed_ends, changed_table}
+use Rattle.mod_core.proofs.TableLemmas.{unequal, itself, changed_chains, changed_numbered, changed_counted, changed_ends, Quiet, quiet, Changed, changed}
 
 -- a net comes last in its module
-module _ (names : List (List ℕ)) (top : ℕ) (up : Upper) (nets : Rows NetRow) (g : IsGood (length names) top up nets) (owner key id name : ℕ) (range : Option Range) (row : ModRow)
+module _ (names : List (List ℕ)) (top : ℕ) (up : Upper) (nets : Rows NetRow) (within : Ends → List PInst) (g : IsGood (length names) top up nets) (owner key id name : ℕ) (range : Option Range) (row : ModRow)
     (was : rows.get up.mods owner ≡ Some row) (absent : rows.get nets key ≡ None) (above : row.next_net ≤ id) (few : name < length names) where
   abbrev pub grown : ModRow
   grown = record row { next_net = id + 1; nets = ends_with row.nets key }
@@ -86,20 +86,27 @@ module _ (names : List (List ℕ)) (top : ℕ) (up : Upper) (nets : Rows NetRow)
   nets_other : (o : ℕ) (r : ModRow) → o ≢ owner → rows.get up.mods o ≡ Some r → nets_from names nets_in r.nets ≡ nets_from names nets r.nets
   nets_other o r d at = appended_other net_rows nets mid (ends_in net_holders up.mods) (ends_in net_holders mods_in) owner key row.nets g.nets_of ends_change no_link new_link same_links (net_shown names nets) (net_shown names nets_in) net_shows o r.nets d (ap (option_map net_holders.ends_of) at)
 
-  pub net_in_module : module_of_row names nets_in grown ≡ record (module_of_row names nets row) { nets = nets_from names nets row.nets ++ net_of_row names new ∷ []; next_net = id + 1 }
-  net_in_module = λ i. record (module_of_row names nets row) { nets = nets_listed i; ports = ports_same owner row was i; next_net = id + 1 }
+  pub net_in_module : module_of_row names nets_in within grown ≡ record (module_of_row names nets within row) { nets = nets_from names nets row.nets ++ net_of_row names new ∷ []; next_net = id + 1 }
+  net_in_module = λ i. record (module_of_row names nets within row) { nets = nets_listed i; ports = ports_same owner row was i; next_net = id + 1 }
 
   -- the table has the net
-  pub net_in_table : id ≡ row.next_net → table_of names top (upper up.tops mods_in) nets_in ≡ with_module (table_of names top up nets) row.id (with_net (name_at names name) range)
-  net_in_table same = changed_table names top up mods_in nets nets_in g owner row grown was becomes_in others_in refl (with_net (name_at names name) range)
-      (net_in_module ∙ (λ i. record (module_of_row names nets row) { nets = nets_from names nets row.nets ++ record { id = record { 0 = same i }; name = name_at names name; range = range } ∷ []; next_net = same i + 1 }))
-      (λ o r d at. λ i. record (module_of_row names nets r) { nets = nets_other o r d at i; ports = ports_same o r at i })
+  pub net_in_changed : id ≡ row.next_net → Changed names top up (upper up.tops mods_in) nets nets_in within within row.id (with_net (name_at names name) range)
+  net_in_changed same = changed names top up mods_in nets nets_in g owner row grown was becomes_in others_in refl within within (with_net (name_at names name) range)
+      (net_in_module ∙ (λ i. record (module_of_row names nets within row) { nets = nets_from names nets row.nets ++ record { id = record { 0 = same i }; name = name_at names name; range = range } ∷ []; next_net = same i + 1 }))
+      (λ o r d at. λ i. record (module_of_row names nets within r) { nets = nets_other o r d at i; ports = ports_same o r at i })
+
+  pub net_in_quiet : Quiet up.mods mods_in
+  net_in_quiet = quiet names top up mods_in nets nets_in g owner row grown was becomes_in others_in refl refl refl (stays row.next_inst)
+    where
+      stays : (x : ℕ) → x ≤ x
+      stays x = omega arith
 
   -- the rows are as they ought to be
   pub net_in_good : IsGood (length names) top (upper up.tops mods_in) nets_in
   net_in_good = record {
     root = g.root;
     rooted = g.rooted;
+    alone = g.alone;
     modules = changed_chains names top up mods_in nets nets_in g owner row grown was becomes_in others_in refl;
     nets_of = appended_chains net_rows nets mid (ends_in net_holders up.mods) (ends_in net_holders mods_in) owner key row.nets g.nets_of ends_change no_link new_link same_links;
     ports_of = AreChains-same port_rows (links port_rows nets) (links port_rows nets_in) (ends_in port_holders up.mods) (ends_in port_holders mods_in) port_links (changed_ends names top up mods_in nets nets_in g owner row grown was becomes_in others_in refl port_holders refl) g.ports_of;
@@ -117,7 +124,7 @@ module _ (names : List (List ℕ)) (top : ℕ) (up : Upper) (nets : Rows NetRow)
       grows x y l = omega arith
 
 -- a net that is no port goes
-module _ (names : List (List ℕ)) (top : ℕ) (up : Upper) (nets : Rows NetRow) (g : IsGood (length names) top up nets) (key : ℕ) (net : NetRow) (row : ModRow)
+module _ (names : List (List ℕ)) (top : ℕ) (up : Upper) (nets : Rows NetRow) (within : Ends → List PInst) (g : IsGood (length names) top up nets) (key : ℕ) (net : NetRow) (row : ModRow)
     (at : rows.get nets key ≡ Some net) (alone : net.port ≡ None) (was : rows.get up.mods net.link.owner ≡ Some row) where
   abbrev pub shrunk : ModRow
   shrunk = record row { nets = ends_without row.nets net.link }
@@ -204,10 +211,16 @@ module _ (names : List (List ℕ)) (top : ℕ) (up : Upper) (nets : Rows NetRow)
   nets_other_out o r d there = detached_other net_rows nets nets_out (ends_in net_holders up.mods) (ends_in net_holders mods_out) key net.link g.nets_of linked no_more as_joined (net_shown names nets) (net_shown names nets_out) net_shows_out o r.nets d (ap (option_map net_holders.ends_of) there)
 
   -- the table is without the net
-  pub net_out_table : table_of names top (upper up.tops mods_out) nets_out ≡ with_module (table_of names top up nets) row.id (without_net net.id)
-  net_out_table = changed_table names top up mods_out nets nets_out g net.link.owner row shrunk was becomes_out others_out refl (without_net net.id)
-      (λ i. record (module_of_row names nets row) { nets = nets_listed_out i; ports = ports_same_out net.link.owner row was i })
-      (λ o r d there. λ i. record (module_of_row names nets r) { nets = nets_other_out o r d there i; ports = ports_same_out o r there i })
+  pub net_out_changed : Changed names top up (upper up.tops mods_out) nets nets_out within within row.id (without_net net.id)
+  net_out_changed = changed names top up mods_out nets nets_out g net.link.owner row shrunk was becomes_out others_out refl within within (without_net net.id)
+      (λ i. record (module_of_row names nets within row) { nets = nets_listed_out i; ports = ports_same_out net.link.owner row was i })
+      (λ o r d there. λ i. record (module_of_row names nets within r) { nets = nets_other_out o r d there i; ports = ports_same_out o r there i })
+
+  pub net_out_quiet : Quiet up.mods mods_out
+  net_out_quiet = quiet names top up mods_out nets nets_out g net.link.owner row shrunk was becomes_out others_out refl refl refl (stays row.next_inst)
+    where
+      stays : (x : ℕ) → x ≤ x
+      stays x = omega arith
 
   pub net_out_good : IsGood (length names) top (upper up.tops mods_out) nets_out
   net_out_good =
@@ -215,6 +228,7 @@ module _ (names : List (List ℕ)) (top : ℕ) (up : Upper) (nets : Rows NetRow)
       record {
         root = g.root;
         rooted = g.rooted;
+        alone = g.alone;
         modules = changed_chains names top up mods_out nets nets_out g net.link.owner row shrunk was becomes_out others_out refl;
         nets_of = detached_chains net_rows nets nets_out (ends_in net_holders up.mods) (ends_in net_holders mods_out) key net.link g.nets_of linked no_more as_joined (ends_out p.ends held);
         ports_of = AreChains-same port_rows (links port_rows nets) (links port_rows nets_out) (ends_in port_holders up.mods) (ends_in port_holders mods_out) port_links_out (changed_ends names top up mods_out nets nets_out g net.link.owner row shrunk was becomes_out others_out refl port_holders refl) g.ports_of;

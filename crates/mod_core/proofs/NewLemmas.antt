@@ -4,6 +4,7 @@ use Rattle.std.proofs.lemmas.Bool.{cases_eq}
 use Rattle.std.specs.Ordering.{nat_cmp}
 use Rattle.std.specs.FinMap as rows
 use Rattle.std.specs.FinMap.{get-empty}
+use Rattle.emh_base.specs.declared.plain.PInst.{PInst}
 use Rattle.flatten_rules.specs.Lookup.{no_modules}
 use Rattle.timeline.specs.Timeline.{Moment, Timeline, new_timeline}
 use Rattle.timeline.specs.Joined.{join}
@@ -17,8 +18,9 @@ use Rattle.row_chains.proofs.TableLemmas.{get_same, get_other}
 use Rattle.mod_core.specs.declared.rows.TopRow.{TopRow}
 use Rattle.mod_core.specs.declared.rows.ModRow.{ModRow}
 use Rattle.mod_core.specs.declared.rows.NetRow.{NetRow}
-use Rattle.mod_core.specs.inside.Linked.{mod_rows, mod_holders, net_rows, net_holders, port_rows, port_holders, module_shown, table_from, table_of, upper}
-use Rattle.mod_core.specs.inside.Good.{mod_face, net_face, IsGood}
+use Rattle.mod_core.specs.declared.rows.InstRow.{InstRow}
+use Rattle.mod_core.specs.inside.Linked.{mod_rows, mod_holders, net_rows, net_holders, port_rows, port_holders, inst_rows, inst_holders, user_rows, user_holders, module_shown, table_from, table_of, upper, lower, within_of, whole_of}
+use Rattle.mod_core.specs.inside.Good.{mod_face, net_face, inst_face, IsGood, IsWhole}
 use Rattle.mod_core.specs.inside.Changes.{empty_chain}
 use Rattle.mod_core.specs.inside.Kept.{IsKept}
 use Rattle.mod_core.proofs.KeptLemmas.{committed}
@@ -49,6 +51,12 @@ no_mods = rows.empty
 abbrev pub no_nets : Rows NetRow
 no_nets = rows.empty
 
+abbrev pub no_insts : Rows InstRow
+no_insts = rows.empty
+
+no_inst : (k : ℕ) → rows.get no_insts k ≡ None
+no_inst k = get-empty nat_cmp k
+
 no_mod : (k : ℕ) → rows.get no_mods k ≡ None
 no_mod k = get-empty nat_cmp k
 
@@ -62,6 +70,12 @@ module _ (names : List (List ℕ)) (top : ℕ) where
   rooted : rows.get (first_tops top) top ≡ Some first_row
   rooted = get_same rows.empty top (Some first_row)
 
+  one_root : (o : ℕ) (r : TopRow) → rows.get (first_tops top) o ≡ Some r → o ≡ top
+  one_root o r at = elim (cases_eq o top) [
+    | inl e ↦ e
+    | inr d ↦ absurd (none_some r (sym (get_other rows.empty top (Some first_row) o d ∙ get-empty nat_cmp o) ∙ at))
+  ]
+
   one_top : (o : ℕ) (ends : Ends) → ends_in mod_holders (first_tops top) o ≡ Some ends → empty_chain ≡ ends
   one_top o ends at = elim (cases_eq o top) [
     | inl e ↦ same_some empty_chain ends (sym (ap (option_map mod_holders.ends_of) (ap (rows.get (first_tops top)) e ∙ rooted)) ∙ at)
@@ -72,6 +86,7 @@ module _ (names : List (List ℕ)) (top : ℕ) where
   first_good = record {
     root = first_row;
     rooted = rooted;
+    alone = one_root;
     modules = no_rows (links mod_rows no_mods) (ends_in mod_holders (first_tops top)) (λ k. ap (option_and_then mod_rows.link_of) (no_mod k)) one_top;
     nets_of = no_rows (links net_rows no_nets) (ends_in net_holders no_mods) (λ k. ap (option_and_then net_rows.link_of) (no_net k)) (λ o ends at. absurd (none_some ends (sym (ap (option_map net_holders.ends_of) (no_mod o)) ∙ at)));
     ports_of = no_rows (links port_rows no_nets) (ends_in port_holders no_mods) (λ k. ap (option_and_then port_rows.link_of) (no_net k)) (λ o ends at. absurd (none_some ends (sym (ap (option_map port_holders.ends_of) (no_mod o)) ∙ at)));
@@ -88,10 +103,23 @@ module _ (names : List (List ℕ)) (top : ℕ) where
     };
   }
 
-  first_table : table_of names top (upper (first_tops top) no_mods) no_nets ≡ no_modules
-  first_table =
-      ap (table_from names no_mods no_nets) rooted
-      ∙ (λ i. record { modules = listed_none mod_rows (module_shown names no_mods no_nets) no_mods i; next_module = 0 })
+  pub first_all : IsWhole (length names) top (lower (upper (first_tops top) no_mods) no_nets) no_insts
+  first_all = record {
+    good = first_good;
+    insts_of = no_rows (links inst_rows no_insts) (ends_in inst_holders no_mods) (λ k. ap (option_and_then inst_rows.link_of) (no_inst k)) (λ o ends at. absurd (none_some ends (sym (ap (option_map inst_holders.ends_of) (no_mod o)) ∙ at)));
+    users_of = no_rows (links user_rows no_insts) (ends_in user_holders no_mods) (λ k. ap (option_and_then user_rows.link_of) (no_inst k)) (λ o ends at. absurd (none_some ends (sym (ap (option_map user_holders.ends_of) (no_mod o)) ∙ at)));
+    insts_numbered = record {
+      one = λ j k a b ja kb o e. absurd (none_some a (sym (ap (option_map inst_face) (no_inst j)) ∙ ja));
+      below = λ k a m ka om. absurd (none_some a (sym (ap (option_map inst_face) (no_inst k)) ∙ ka));
+      named = λ k a ka. absurd (none_some a (sym (ap (option_map inst_face) (no_inst k)) ∙ ka));
+      home = λ k a o ka h. absurd (none_some a (sym (ap (option_map inst_face) (no_inst k)) ∙ ka));
+    };
+  }
+
+  first_table : (within : Ends → List PInst) → table_of names top (upper (first_tops top) no_mods) no_nets within ≡ no_modules
+  first_table within =
+      ap (table_from names no_mods no_nets within) rooted
+      ∙ (λ i. record { modules = listed_none mod_rows (module_shown names no_mods no_nets within) no_mods i; next_module = 0 })
 
   -- the first row comes in a record that is forgotten
   module _ (made roomy begun added closed tops : Timeline (Rows TopRow)) (made_is : made ≡ new_timeline rows.empty) (roomy_is : roomy ≡ record made { spare_rows = roomy.spare_rows; spare_writes = roomy.spare_writes })
@@ -116,20 +144,23 @@ module _ (names : List (List ℕ)) (top : ℕ) where
         let unwritten : tops.writes ≡ 0 = ap (λ (s : Timeline (Rows TopRow)). s.writes) tops_is ∙ ap (λ (s : Timeline (Rows TopRow)). s.writes) closed_is in
         λ i. record { now = now_is i; past = past_is i; future = future_is i; is_open = is_closed i; base = base_is i; writes = unwritten i; spare_rows = tops.spare_rows; spare_writes = tops.spare_writes }
 
-    pub first_kept : (mods : Timeline (Rows ModRow)) (nets : Timeline (Rows NetRow)) → mods ≡ new_timeline no_mods → nets ≡ new_timeline no_nets → IsKept names top tops mods nets
-    first_kept mods nets e f =
-        let F : Timeline (Rows TopRow) → Type 0 = λ s. IsKept names top s mods nets in
-        let G : Timeline (Rows ModRow) → Type 0 = λ s. IsKept names top start s nets in
-        let H : Timeline (Rows NetRow) → Type 0 = λ s. IsKept names top start (new_timeline no_mods) s in
-        subst F (sym started) (subst G (sym e) (subst H (sym f) (record {
+    pub first_kept : (mods : Timeline (Rows ModRow)) (nets : Timeline (Rows NetRow)) (insts : Timeline (Rows InstRow)) → mods ≡ new_timeline no_mods → nets ≡ new_timeline no_nets → insts ≡ new_timeline no_insts → IsKept names top tops mods nets insts
+    first_kept mods nets insts e f h =
+        let F : Timeline (Rows TopRow) → Type 0 = λ s. IsKept names top s mods nets insts in
+        let G : Timeline (Rows ModRow) → Type 0 = λ s. IsKept names top start s nets insts in
+        let H : Timeline (Rows NetRow) → Type 0 = λ s. IsKept names top start (new_timeline no_mods) s insts in
+        let K : Timeline (Rows InstRow) → Type 0 = λ s. IsKept names top start (new_timeline no_mods) (new_timeline no_nets) s in
+        subst F (sym started) (subst G (sym e) (subst H (sym f) (subst K (sym h) (record {
           heads = record { opens = refl; now = tt; base = tt; past = tt; future = tt };
-          all = record { opens = refl; now = first_good; base = first_good; past = tt; future = tt };
-        })))
+          middle = record { opens = refl; now = tt; base = tt; past = tt; future = tt };
+          all = record { opens = refl; now = first_all; base = first_all; past = tt; future = tt };
+        }))))
 
-    pub first_whole : (mods : Timeline (Rows ModRow)) (nets : Timeline (Rows NetRow)) → mods ≡ new_timeline no_mods → nets ≡ new_timeline no_nets → join (table_of names top) (join upper tops mods) nets ≡ new_timeline no_modules
-    first_whole mods nets e f =
-        (λ i. join (table_of names top) (join upper (started i) (e i)) (f i))
-        ∙ (λ i. record (new_timeline no_modules) { now = first_table i; base = first_table i; spare_rows = least tops.spare_rows i; spare_writes = least tops.spare_writes i })
+    pub first_whole : (mods : Timeline (Rows ModRow)) (nets : Timeline (Rows NetRow)) (insts : Timeline (Rows InstRow)) → mods ≡ new_timeline no_mods → nets ≡ new_timeline no_nets → insts ≡ new_timeline no_insts
+        → join (whole_of names top) (join lower (join upper tops mods) nets) insts ≡ new_timeline no_modules
+    first_whole mods nets insts e f h =
+        (λ i. join (whole_of names top) (join lower (join upper (started i) (e i)) (f i)) (h i))
+        ∙ (λ i. record (new_timeline no_modules) { now = first_table (within_of names no_mods no_nets no_insts) i; base = first_table (within_of names no_mods no_nets no_insts) i; spare_rows = least tops.spare_rows i; spare_writes = least tops.spare_writes i })
       where
-        least : (n : ℕ) → min (min n 0) 0 ≡ 0
+        least : (n : ℕ) → min (min (min n 0) 0) 0 ≡ 0
         least n = omega arith

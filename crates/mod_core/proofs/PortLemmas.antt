@@ -1,27 +1,28 @@
 -- The table after a net has become a port, or a port a net alone.
-use Rattle.std.proofs.Common.{◌≡◌, ◌≢◌, ℕ, ◌≤◌, ◌==◌, not, filter, Bool, true, List, [], ◌∷◌, ◌++◌, length, Option, Some, None, option_map, option_and_then, refl, sym, ap, subst, ◌∙◌, inl, inr, arith}
+use Rattle.std.proofs.Common.{◌≡◌, ◌≢◌, ℕ, ◌≤◌, ◌==◌, not, filter, Bool, true, false, List, [], ◌∷◌, ◌++◌, length, Option, Some, None, option_map, option_and_then, refl, sym, ap, subst, ◌∙◌, inl, inr, arith}
 use Rattle.std.proofs.lemmas.Bool.{cases_eq}
 use Rattle.std.specs.FinMap as rows
 use Rattle.emh_base.specs.declared.plain.Dir.{Dir}
 use Rattle.emh_base.specs.declared.plain.PPort.{PPort}
+use Rattle.emh_base.specs.declared.plain.PInst.{PInst}
 use Rattle.emh_base.specs.declared.plain.PModule.{PModule}
-use Rattle.flatten_rules.specs.Changes.{with_module}
 use Rattle.undo_slots.specs.Slots.{Rows}
 use Rattle.row_chains.specs.declared.link.Link.{Link}
 use Rattle.row_chains.specs.declared.link.Ends.{Ends}
-use Rattle.row_chains.specs.Chains.{ends_with, ends_without}
-use Rattle.row_chains.specs.Rows.{links, lead_at, ends_in}
+use Rattle.row_chains.specs.Chains.{AreApart, ends_with, ends_without}
+use Rattle.row_chains.specs.Rows.{links, keys, lead_at, ends_in}
 use Rattle.row_chains.proofs.KeyLemmas.{same_some, none_some}
 use Rattle.row_chains.proofs.ChainLemmas.{EndsChange}
-use Rattle.row_chains.proofs.TableLemmas.{get_same, get_other, seen-lead_at, seen-follow_at, AreChains-same, listed-same, appended_chains, appended_listed, appended_other, place, detached_chains, detached_listed, detached_other}
+use Rattle.row_chains.proofs.TableLemmas.{get_same, get_other, seen-lead_at, seen-follow_at, keys-chain, keys-row, AreChains-same, listed-same, appended_chains, appended_listed, appended_other, place, detached_chains, detached_listed, detached_other}
 use Rattle.mod_core.specs.declared.rows.ModRow.{ModRow}
 use Rattle.mod_core.specs.declared.rows.NetRow.{NetRow}
 use Rattle.mod_core.specs.declared.rows.PortRow.{PortRow}
-use Rattle.mod_core.specs.inside.Linked.{net_rows, net_holders, port_rows, port_holders, port_link, port_leading, port_following, net_of_row, port_on, port_of_row, net_shown, port_shown, nets_from, ports_from, module_of_row, table_of, Upper, upper}
+use Rattle.mod_core.specs.inside.Linked.{net_rows, net_holders, port_rows, port_holders, port_link, port_leading, port_following, net_of_row, port_on, port_of_row, net_shown, port_shown, nets_from, ports_from, module_of_row, Upper, upper}
 use Rattle.mod_core.specs.inside.Good.{mod_face, mod_faces, NetFace, net_face, net_faces, port_owner, IsGood}
 use Rattle.mod_core.specs.inside.Changes.{joined_rows, joined_ends, new_port}
+use Rattle.mod_core.proofs.OnceLemmas.{Once, once_shown}
 use Rattle.mod_core.proofs.NumberLemmas.{WasNet, nets_from as numbered_from}
-use Rattle.mod_core.proofs.TableLemmas.{unequal, itself, changed_chains, changed_numbered, changed_counted, changed_ends, changed_table}
+use Rattle.mod_core.proofs.TableLemmas.{unequal, itself, changed_chains, changed_numbered, changed_counted, changed_ends, Quiet, quiet, Changed, changed}
 
 -- the module with a port less, whose net stays
 abbrev pub without_port_on : NetRow → PModule → PModule
@@ -61,7 +62,7 @@ at_most : (x : ℕ) → x ≤ x
 at_most x = omega arith
 
 -- a net becomes the last port of its module
-module _ (names : List (List ℕ)) (top : ℕ) (up : Upper) (nets : Rows NetRow) (g : IsGood (length names) top up nets) (owner key : ℕ) (row : ModRow) (net : NetRow) (dir : Dir)
+module _ (names : List (List ℕ)) (top : ℕ) (up : Upper) (nets : Rows NetRow) (within : Ends → List PInst) (g : IsGood (length names) top up nets) (owner key : ℕ) (row : ModRow) (net : NetRow) (dir : Dir)
     (was : rows.get up.mods owner ≡ Some row) (at : rows.get nets key ≡ Some net) (alone : net.port ≡ None) (mine : net.link.owner ≡ owner) where
   abbrev pub grown : ModRow
   grown = record row { ports = ends_with row.ports key }
@@ -123,19 +124,23 @@ module _ (names : List (List ℕ)) (top : ℕ) (up : Upper) (nets : Rows NetRow)
   ports_other : (o : ℕ) (r : ModRow) → o ≢ owner → rows.get up.mods o ≡ Some r → ports_from nets_in r.ports ≡ ports_from nets r.ports
   ports_other o r d there = appended_other port_rows nets mid (ends_in port_holders up.mods) (ends_in port_holders mods_in) owner key row.ports g.ports_of ends_change no_link new_link same_links (port_shown nets) (port_shown nets_in) port_shows o r.ports d (ap (option_map port_holders.ends_of) there)
 
-  pub port_in_table : (change : PModule → PModule) → record (module_of_row names nets row) { ports = ports_from nets row.ports ++ record { net = net.id; dir = dir } ∷ [] } ≡ change (module_of_row names nets row)
-      → table_of names top (upper up.tops mods_in) nets_in ≡ with_module (table_of names top up nets) row.id change
-  port_in_table change is = changed_table names top up mods_in nets nets_in g owner row grown was becomes_in others_in refl change
-      ((λ i. record (module_of_row names nets row) { nets = nets_same owner row was i; ports = ports_listed i }) ∙ is)
-      (λ o r d there. λ i. record (module_of_row names nets r) { nets = nets_same o r there i; ports = ports_other o r d there i })
+  pub port_in_changed : (change : PModule → PModule) → record (module_of_row names nets within row) { ports = ports_from nets row.ports ++ record { net = net.id; dir = dir } ∷ [] } ≡ change (module_of_row names nets within row)
+      → Changed names top up (upper up.tops mods_in) nets nets_in within within row.id change
+  port_in_changed change is = changed names top up mods_in nets nets_in g owner row grown was becomes_in others_in refl within within change
+      ((λ i. record (module_of_row names nets within row) { nets = nets_same owner row was i; ports = ports_listed i }) ∙ is)
+      (λ o r d there. λ i. record (module_of_row names nets within r) { nets = nets_same o r there i; ports = ports_other o r d there i })
 
   face_new : net_faces nets_in key ≡ Some (net_face with_port)
   face_new = seen_new (option_map net_face) face_lead
+
+  pub port_in_quiet : Quiet up.mods mods_in
+  port_in_quiet = quiet names top up mods_in nets nets_in g owner row grown was becomes_in others_in refl refl refl (at_most row.next_inst)
 
   pub port_in_good : IsGood (length names) top (upper up.tops mods_in) nets_in
   port_in_good = record {
     root = g.root;
     rooted = g.rooted;
+    alone = g.alone;
     modules = changed_chains names top up mods_in nets nets_in g owner row grown was becomes_in others_in refl;
     nets_of = AreChains-same net_rows (links net_rows nets) (links net_rows nets_in) (ends_in net_holders up.mods) (ends_in net_holders mods_in) net_links (changed_ends names top up mods_in nets nets_in g owner row grown was becomes_in others_in refl net_holders refl) g.nets_of;
     ports_of = appended_chains port_rows nets mid (ends_in port_holders up.mods) (ends_in port_holders mods_in) owner key row.ports g.ports_of ends_change no_link new_link same_links;
@@ -161,7 +166,7 @@ module _ (names : List (List ℕ)) (top : ℕ) (up : Upper) (nets : Rows NetRow)
   }
 
 -- a port becomes a net alone
-module _ (names : List (List ℕ)) (top : ℕ) (up : Upper) (nets : Rows NetRow) (g : IsGood (length names) top up nets) (key : ℕ) (row : ModRow) (net : NetRow) (port : PortRow)
+module _ (names : List (List ℕ)) (top : ℕ) (up : Upper) (nets : Rows NetRow) (within : Ends → List PInst) (g : IsGood (length names) top up nets) (key : ℕ) (row : ModRow) (net : NetRow) (port : PortRow)
     (was : rows.get up.mods port.link.owner ≡ Some row) (at : rows.get nets key ≡ Some net) (on : net.port ≡ Some port) where
   abbrev pub shrunk : ModRow
   shrunk = record row { ports = ends_without row.ports port.link }
@@ -256,13 +261,34 @@ module _ (names : List (List ℕ)) (top : ℕ) (up : Upper) (nets : Rows NetRow)
       (λ k l y d there of shows. port_row k (rows.get nets k) l y refl d there of shows) port_shows_out
       ∙ ap (λ (z : Ends). filter keep (ports_from nets z)) held
 
+  -- no other port of the module is on this net
+  pub ports_once : Once (λ (other : PPort). other.net.0 == net.id.0) (ports_from nets row.ports)
+  ports_once =
+      let held_ends : ends_in port_holders up.mods port.link.owner ≡ Some row.ports = ap (option_map port_holders.ends_of) was in
+      let c = g.ports_of.chain port.link.owner row.ports held_ends in
+      once_shown (port_shown nets) (λ (other : PPort). other.net.0 == net.id.0) key (keys port_rows nets row.ports.first)
+      (subst (λ ks. AreApart ks) (sym (keys-chain port_rows nets port.link.owner row.ports c.0 c.1)) c.1.apart)
+      (λ k y h shows passes. elim (cases_eq k key) [
+        | inl e ↦ e
+        | inr d ↦
+            let l = keys-row port_rows nets (ends_in port_holders up.mods) g.ports_of port.link.owner row.ports held_ends k h in
+            absurd (both (y.net.0 == net.id.0) passes (port_row k (rows.get nets k) l.0 y refl d l.1.0 l.1.1 shows))
+      ])
+    where
+      both : (b : Bool) → b ≡ true → not b ≡ true → ⊥
+      both true e f = cc
+      both false e f = cc
+
   ports_other_out : (o : ℕ) (r : ModRow) → o ≢ port.link.owner → rows.get up.mods o ≡ Some r → ports_from nets_out r.ports ≡ ports_from nets r.ports
   ports_other_out o r d there = detached_other port_rows nets nets_out (ends_in port_holders up.mods) (ends_in port_holders mods_out) key port.link g.ports_of linked no_more as_joined (port_shown nets) (port_shown nets_out) port_shows_out o r.ports d (ap (option_map port_holders.ends_of) there)
 
-  pub port_out_table : table_of names top (upper up.tops mods_out) nets_out ≡ with_module (table_of names top up nets) row.id (without_port_on net)
-  port_out_table = changed_table names top up mods_out nets nets_out g port.link.owner row shrunk was becomes_out others_out refl (without_port_on net)
-      (λ i. record (module_of_row names nets row) { nets = nets_same_out port.link.owner row was i; ports = ports_listed_out i })
-      (λ o r d there. λ i. record (module_of_row names nets r) { nets = nets_same_out o r there i; ports = ports_other_out o r d there i })
+  pub port_out_changed : Changed names top up (upper up.tops mods_out) nets nets_out within within row.id (without_port_on net)
+  port_out_changed = changed names top up mods_out nets nets_out g port.link.owner row shrunk was becomes_out others_out refl within within (without_port_on net)
+      (λ i. record (module_of_row names nets within row) { nets = nets_same_out port.link.owner row was i; ports = ports_listed_out i })
+      (λ o r d there. λ i. record (module_of_row names nets within r) { nets = nets_same_out o r there i; ports = ports_other_out o r d there i })
+
+  pub port_out_quiet : Quiet up.mods mods_out
+  port_out_quiet = quiet names top up mods_out nets nets_out g port.link.owner row shrunk was becomes_out others_out refl refl refl (at_most row.next_inst)
 
   pub port_out_good : IsGood (length names) top (upper up.tops mods_out) nets_out
   port_out_good =
@@ -270,6 +296,7 @@ module _ (names : List (List ℕ)) (top : ℕ) (up : Upper) (nets : Rows NetRow)
       record {
         root = g.root;
         rooted = g.rooted;
+        alone = g.alone;
         modules = changed_chains names top up mods_out nets nets_out g port.link.owner row shrunk was becomes_out others_out refl;
         nets_of = AreChains-same net_rows (links net_rows nets) (links net_rows nets_out) (ends_in net_holders up.mods) (ends_in net_holders mods_out) net_links_out (changed_ends names top up mods_out nets nets_out g port.link.owner row shrunk was becomes_out others_out refl net_holders refl) g.nets_of;
         ports_of = detached_chains port_rows nets nets_out (ends_in port_holders up.mods) (ends_in port_holders mods_out) key port.link g.ports_of linked no_more as_joined (ends_out p.ends held);

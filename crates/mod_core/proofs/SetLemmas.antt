@@ -5,6 +5,7 @@ use Rattle.std.specs.FinMap as rows
 use Rattle.emh_base.specs.declared.ids.ModId.{ModId}
 use Rattle.emh_base.specs.declared.ids.NetId.{NetId}
 use Rattle.emh_base.specs.declared.plain.PNet.{PNet}
+use Rattle.emh_base.specs.declared.plain.PInst.{PInst}
 use Rattle.emh_base.specs.declared.plain.PModule.{PModule}
 use Rattle.emh_base.specs.declared.plain.Plain.{Plain}
 use Rattle.flatten_rules.specs.Changes.{with_module}
@@ -13,6 +14,7 @@ use Rattle.flatten_rules.specs.NetChanges.{renamed, rename_net}
 use Rattle.timeline.specs.Timeline.{Timeline}
 use Rattle.undo_slots.specs.Slots.{Rows}
 use Rattle.row_chains.specs.declared.link.Link.{Link}
+use Rattle.row_chains.specs.declared.link.Ends.{Ends}
 use Rattle.row_chains.specs.Pays.{Pays}
 use Rattle.row_chains.specs.Rows.{links, ends_in}
 use Rattle.row_chains.proofs.KeyLemmas.{same_some}
@@ -20,13 +22,13 @@ use Rattle.row_chains.proofs.TableLemmas.{get_same, get_other, AreChains-same, l
 use Rattle.mod_core.specs.declared.rows.TopRow.{TopRow}
 use Rattle.mod_core.specs.declared.rows.ModRow.{ModRow}
 use Rattle.mod_core.specs.declared.rows.NetRow.{NetRow}
-use Rattle.mod_core.specs.inside.Linked.{net_rows, net_holders, port_rows, port_holders, net_of_row, port_of_row, net_shown, port_shown, nets_from, ports_from, module_of_row, table_of, Upper, upper}
+use Rattle.mod_core.specs.inside.Linked.{master_at, net_rows, net_holders, port_rows, port_holders, net_of_row, port_of_row, net_shown, port_shown, nets_from, ports_from, module_of_row, table_of, Upper, upper}
 use Rattle.mod_core.specs.inside.Good.{mod_face, mod_faces, NetFace, net_face, net_faces, IsGood}
 use Rattle.mod_core.specs.Mods.{name_at}
 use Rattle.mod_core.proofs.NumberLemmas.{WasNet, nets_from as numbered_from}
-use Rattle.mod_core.proofs.TableLemmas.{unequal, itself, changed_chains, changed_numbered, changed_counted, changed_ends, changed_table}
+use Rattle.mod_core.proofs.TableLemmas.{unequal, itself, changed_chains, changed_numbered, changed_counted, changed_ends, Quiet, quiet, Changed, changed as row_changed, master_of_module, same_masters}
 use Rattle.mod_core.proofs.LookupLemmas.{mod_key, IsModule, found_module, net_key, IsNet, found_net}
-use Rattle.mod_core.proofs.EffectLemmas.{Shows, shows}
+use Rattle.mod_core.proofs.WholeLemmas.{as_before, before_all, Shows, shows}
 
 at_most : (x : ℕ) → x ≤ x
 at_most x = omega arith
@@ -45,11 +47,11 @@ set_pays S T x few e =
       spare = omega (arith, writes, spare, few);
     }
 
-pub spare_in : (a b c : ℕ) → 1 ≤ min (min a b) c → (1 ≤ b) × (1 ≤ c)
-spare_in a b c few = (omega (arith, few), omega (arith, few))
+pub spare_in : (a b c d : ℕ) → 1 ≤ min (min (min a b) c) d → (1 ≤ b) × (1 ≤ c)
+spare_in a b c d few = (omega (arith, few), omega (arith, few))
 
 -- a module with another name, locked or not
-module _ (names : List (List ℕ)) (top : ℕ) (up : Upper) (nets : Rows NetRow) (g : IsGood (length names) top up nets) (owner : ℕ) (row : ModRow) (was : rows.get up.mods owner ≡ Some row) (name : ℕ) (locked : Bool) (few : name < length names) where
+module _ (names : List (List ℕ)) (top : ℕ) (up : Upper) (nets : Rows NetRow) (within : Ends → List PInst) (g : IsGood (length names) top up nets) (owner : ℕ) (row : ModRow) (was : rows.get up.mods owner ≡ Some row) (name : ℕ) (locked : Bool) (few : name < length names) where
   abbrev changed : ModRow
   changed = record row { name = name; locked = locked }
 
@@ -62,14 +64,18 @@ module _ (names : List (List ℕ)) (top : ℕ) (up : Upper) (nets : Rows NetRow)
   others : (o : ℕ) → o ≢ owner → rows.get mods_set o ≡ rows.get up.mods o
   others o d = get_other up.mods owner (Some changed) o d
 
-  pub mod_set_table : (change : PModule → PModule) → record (module_of_row names nets row) { name = name_at names name; locked = locked } ≡ change (module_of_row names nets row)
-      → table_of names top (upper up.tops mods_set) nets ≡ with_module (table_of names top up nets) row.id change
-  mod_set_table change is = changed_table names top up mods_set nets nets g owner row changed was becomes others refl change is (λ o r d there. refl)
+  pub mod_set_changed : (change : PModule → PModule) → record (module_of_row names nets within row) { name = name_at names name; locked = locked } ≡ change (module_of_row names nets within row)
+      → Changed names top up (upper up.tops mods_set) nets nets within within row.id change
+  mod_set_changed change is = row_changed names top up mods_set nets nets g owner row changed was becomes others refl within within change is (λ o r d there. refl)
+
+  pub mod_set_quiet : Quiet up.mods mods_set
+  mod_set_quiet = quiet names top up mods_set nets nets g owner row changed was becomes others refl refl refl (at_most row.next_inst)
 
   pub mod_set_good : IsGood (length names) top (upper up.tops mods_set) nets
   mod_set_good = record {
     root = g.root;
     rooted = g.rooted;
+    alone = g.alone;
     modules = changed_chains names top up mods_set nets nets g owner row changed was becomes others refl;
     nets_of = AreChains-same net_rows (links net_rows nets) (links net_rows nets) (ends_in net_holders up.mods) (ends_in net_holders mods_set) (λ k. refl) (changed_ends names top up mods_set nets nets g owner row changed was becomes others refl net_holders refl) g.nets_of;
     ports_of = AreChains-same port_rows (links port_rows nets) (links port_rows nets) (ends_in port_holders up.mods) (ends_in port_holders mods_set) (λ k. refl) (changed_ends names top up mods_set nets nets g owner row changed was becomes others refl port_holders refl) g.ports_of;
@@ -80,7 +86,7 @@ module _ (names : List (List ℕ)) (top : ℕ) (up : Upper) (nets : Rows NetRow)
   }
 
 -- a net with another name
-module _ (names : List (List ℕ)) (top : ℕ) (up : Upper) (nets : Rows NetRow) (g : IsGood (length names) top up nets) (key : ℕ) (net : NetRow) (row : ModRow) (at : rows.get nets key ≡ Some net) (was : rows.get up.mods net.link.owner ≡ Some row) (name : ℕ) (few : name < length names) where
+module _ (names : List (List ℕ)) (top : ℕ) (up : Upper) (nets : Rows NetRow) (within : Ends → List PInst) (g : IsGood (length names) top up nets) (key : ℕ) (net : NetRow) (row : ModRow) (at : rows.get nets key ≡ Some net) (was : rows.get up.mods net.link.owner ≡ Some row) (name : ℕ) (few : name < length names) where
   abbrev named : NetRow
   named = record net { name = name }
 
@@ -134,15 +140,16 @@ module _ (names : List (List ℕ)) (top : ℕ) (up : Upper) (nets : Rows NetRow)
   nets_other : (o : ℕ) (r : ModRow) → o ≢ net.link.owner → rows.get up.mods o ≡ Some r → nets_from names nets_set r.nets ≡ nets_from names nets r.nets
   nets_other o r d there = listed-same net_rows nets nets_set (ends_in net_holders up.mods) g.nets_of net_links (net_shown names nets) (net_shown names nets_set) o r.nets (ap (option_map net_holders.ends_of) there) (λ k l linked of. shown_other o d k l linked of)
 
-  pub net_set_table : table_of names top (upper up.tops up.mods) nets_set ≡ rename_net (table_of names top up nets) row.id net.id (name_at names name)
-  net_set_table = changed_table names top up up.mods nets nets_set g net.link.owner row row was was (λ o d. refl) refl (λ m. record m { nets = map change m.nets })
-      (λ i. record (module_of_row names nets row) { nets = nets_renamed i; ports = ports_same net.link.owner row was i })
-      (λ o r d there. λ i. record (module_of_row names nets r) { nets = nets_other o r d there i; ports = ports_same o r there i })
+  pub net_set_changed : Changed names top up (upper up.tops up.mods) nets nets_set within within row.id (λ m. record m { nets = map change m.nets })
+  net_set_changed = row_changed names top up up.mods nets nets_set g net.link.owner row row was was (λ o d. refl) refl within within (λ m. record m { nets = map change m.nets })
+      (λ i. record (module_of_row names nets within row) { nets = nets_renamed i; ports = ports_same net.link.owner row was i })
+      (λ o r d there. λ i. record (module_of_row names nets within r) { nets = nets_other o r d there i; ports = ports_same o r there i })
 
   pub net_set_good : IsGood (length names) top (upper up.tops up.mods) nets_set
   net_set_good = record {
     root = g.root;
     rooted = g.rooted;
+    alone = g.alone;
     modules = g.modules;
     nets_of = AreChains-same net_rows (links net_rows nets) (links net_rows nets_set) (ends_in net_holders up.mods) (ends_in net_holders up.mods) net_links (λ o. refl) g.nets_of;
     ports_of = AreChains-same port_rows (links port_rows nets) (links port_rows nets_set) (ends_in port_holders up.mods) (ends_in port_holders up.mods) port_links (λ o. refl) g.ports_of;
@@ -168,43 +175,52 @@ module _ (names : List (List ℕ)) (top : ℕ) (up : Upper) (nets : Rows NetRow)
   }
 
 -- what the methods do to the table
-module _ (names : List (List ℕ)) (top : ℕ) (tops : Rows TopRow) (mods : Rows ModRow) (nets : Rows NetRow) (g : IsGood (length names) top (upper tops mods) nets) (id : ModId) (owner : ℕ) (held : mod_key names top (upper tops mods) nets g id ≡ Some owner) where
+module _ (names : List (List ℕ)) (top : ℕ) (tops : Rows TopRow) (mods : Rows ModRow) (nets : Rows NetRow) (within : Ends → List PInst) (g : IsGood (length names) top (upper tops mods) nets) (id : ModId) (owner : ℕ) (held : mod_key names top (upper tops mods) nets within g id ≡ Some owner) where
   abbrev up : Upper
   up = upper tops mods
 
   abbrev table : Plain
-  table = table_of names top up nets
+  table = table_of names top up nets within
 
-  abbrev holder : IsModule names top up nets g id owner
-  holder = found_module names top up nets g id owner held
+  abbrev holder : IsModule names top up nets within g id owner
+  holder = found_module names top up nets within g id owner held
 
   module _ (mods' : Rows ModRow) (row : ModRow) (at : rows.get mods owner ≡ Some row) where
     mine_is : row.id ≡ id
     mine_is = ap (λ (r : ModRow). r.id) (same_some row holder.row (sym at ∙ holder.at)) ∙ holder.id_is
 
-    pub module_renamed : (name : ℕ) → name < length names → mods' ≡ rows.insert mods owner (record row { name = name }) → Shows names top tops mods' nets (rename_module table id (name_at names name))
-    module_renamed name few is =
-        let change : PModule → PModule = λ m. record m { name = name_at names name } in
-        shows names top tops tops (mods_set names top up nets g owner row at name row.locked few) mods' nets nets (rename_module table id (name_at names name)) refl is refl
-        (mod_set_good names top up nets g owner row at name row.locked few)
-        (mod_set_table names top up nets g owner row at name row.locked few change refl ∙ ap (λ (z : ModId). with_module table z change) mine_is)
+    -- its name, and whether it is locked, are written anew
+    module_set : (name : ℕ) (locked : Bool) → name < length names → (change : PModule → PModule) → record (module_of_row names nets within row) { name = name_at names name; locked = locked } ≡ change (module_of_row names nets within row)
+        → ((m : PModule) → master_of_module (change m) ≡ master_of_module m) → mods' ≡ rows.insert mods owner (record row { name = name; locked = locked }) → Shows names top mods nets within as_before (with_module table id change) tops mods' nets
+    module_set name locked few change same keeps is =
+        let m1 : Rows ModRow = mods_set names top up nets within g owner row at name locked few in
+        let c = mod_set_changed names top up nets within g owner row at name locked few change same in
+        shows names top mods nets within as_before (with_module table id change) tops tops m1 mods' nets nets refl is refl (record {
+          good = mod_set_good names top up nets within g owner row at name locked few;
+          table = c.table ∙ ap (λ (z : ModId). with_module table z change) mine_is;
+          quiet = mod_set_quiet names top up nets within g owner row at name locked few;
+          masters = λ k. same_masters names top up (upper tops m1) nets nets within within row.id change c keeps k ∙ sym (before_all (master_at mods nets k));
+        })
 
-    pub module_locked : (locked : Bool) → mods' ≡ rows.insert mods owner (record row { locked = locked }) → Shows names top tops mods' nets (with_lock table id locked)
-    module_locked locked is =
-        let few = g.mods_numbered.named owner (mod_face row) (ap (option_map mod_face) at) in
-        let change : PModule → PModule = λ m. record m { locked = locked } in
-        shows names top tops tops (mods_set names top up nets g owner row at row.name locked few) mods' nets nets (with_lock table id locked) refl is refl
-        (mod_set_good names top up nets g owner row at row.name locked few)
-        (mod_set_table names top up nets g owner row at row.name locked few change refl ∙ ap (λ (z : ModId). with_module table z change) mine_is)
+    pub module_renamed : (name : ℕ) → name < length names → mods' ≡ rows.insert mods owner (record row { name = name }) → Shows names top mods nets within as_before (rename_module table id (name_at names name)) tops mods' nets
+    module_renamed name few is = module_set name row.locked few (λ m. record m { name = name_at names name }) refl (λ m. refl) is
 
-  module _ (net : NetId) (key : ℕ) (e : net_key names top up nets g owner holder.row holder.at net ≡ Some key) where
-    abbrev stood : IsNet names top up nets g owner holder.row holder.at net key
-    stood = found_net names top up nets g owner holder.row holder.at net key e
+    pub module_locked : (locked : Bool) → mods' ≡ rows.insert mods owner (record row { locked = locked }) → Shows names top mods nets within as_before (with_lock table id locked) tops mods' nets
+    module_locked locked is = module_set row.name locked (g.mods_numbered.named owner (mod_face row) (ap (option_map mod_face) at)) (λ m. record m { locked = locked }) refl (λ m. refl) is
 
-    pub net_renamed : (nets' : Rows NetRow) (row : NetRow) (name : ℕ) → rows.get nets key ≡ Some row → name < length names → nets' ≡ rows.insert nets key (record row { name = name }) → Shows names top tops mods nets' (rename_net table id net (name_at names name))
+  module _ (net : NetId) (key : ℕ) (e : net_key names top up nets within g owner holder.row holder.at net ≡ Some key) where
+    abbrev stood : IsNet names top up nets within g owner holder.row holder.at net key
+    stood = found_net names top up nets within g owner holder.row holder.at net key e
+
+    pub net_renamed : (nets' : Rows NetRow) (row : NetRow) (name : ℕ) → rows.get nets key ≡ Some row → name < length names → nets' ≡ rows.insert nets key (record row { name = name }) → Shows names top mods nets within as_before (rename_net table id net (name_at names name)) tops mods nets'
     net_renamed nets' row name at few is =
         let same : row ≡ stood.net = same_some row stood.net (sym at ∙ stood.at) in
         let was : rows.get mods stood.net.link.owner ≡ Some holder.row = ap (rows.get mods) stood.mine ∙ holder.at in
-        shows names top tops tops mods mods (nets_set names top up nets g key stood.net holder.row stood.at was name few) nets' (rename_net table id net (name_at names name)) refl refl (is ∙ ap (λ (r : NetRow). rows.insert nets key (record r { name = name })) same)
-        (net_set_good names top up nets g key stood.net holder.row stood.at was name few)
-        (net_set_table names top up nets g key stood.net holder.row stood.at was name few ∙ (λ i. rename_net table (holder.id_is i) (stood.id_is i) (name_at names name)))
+        let n1 : Rows NetRow = nets_set names top up nets within g key stood.net holder.row stood.at was name few in
+        let c = net_set_changed names top up nets within g key stood.net holder.row stood.at was name few in
+        shows names top mods nets within as_before (rename_net table id net (name_at names name)) tops tops mods mods n1 nets' refl refl (is ∙ ap (λ (r : NetRow). rows.insert nets key (record r { name = name })) same) (record {
+          good = net_set_good names top up nets within g key stood.net holder.row stood.at was name few;
+          table = c.table ∙ (λ i. rename_net table (holder.id_is i) (stood.id_is i) (name_at names name));
+          quiet = record { insts = λ o. refl; users = λ o. refl; counted = λ o a there. record { was = a; at = there; counted = at_most a.next_net } };
+          masters = λ k. same_masters names top up up nets n1 within within holder.row.id _ c (λ m. refl) k ∙ sym (before_all (master_at mods nets k));
+        })

@@ -3,10 +3,10 @@ ghost use Rattle.std.specs.FinMap as map;
 ghost use Rattle.row_chains.specs.Chains.{AreChains};
 ghost use Rattle.row_chains.specs.Rows.{links, ends_in};
 ghost use Rattle.row_chains.specs.Pays.{Pays};
-ghost use Rattle.mod_core.specs.inside.Linked.{mod_rows, mod_holders, net_rows, net_holders, port_rows, port_holders};
+ghost use Rattle.mod_core.specs.inside.Linked.{mod_rows, mod_holders, net_rows, net_holders, port_rows, port_holders, inst_rows, inst_holders, user_rows, user_holders};
 ghost use Rattle.mod_core.specs.inside.Changes.{joined_rows, joined_ends};
 
-use crate::rows::{ModRow, NetRow, PortRow, TopRow};
+use crate::rows::{InstRow, ModRow, NetRow, PortRow, TopRow};
 use row_chains::{Chain, Ends, Link, Numbered, detach};
 use undo_slots::Table;
 
@@ -18,6 +18,12 @@ pub(crate) struct Nets;
 
 /// The ports of a module, in port order.
 pub(crate) struct Ports;
+
+/// The instances of a module, in rising order of id.
+pub(crate) struct Insts;
+
+/// The instances of a master, wherever they stand.
+pub(crate) struct Users;
 
 fn behind(link: Link, from: Option<usize>) -> Link
     ensures { result ≡ record link { prev = from } }
@@ -172,6 +178,84 @@ impl Numbered<NetRow> for Ports {
 
     fn number(&self, row: NetRow) -> u32 {
         row.id.0
+    }
+}
+
+impl Chain<InstRow, ModRow> for Insts {
+    ghost rows = { inst_rows };
+
+    ghost holders = { inst_holders };
+
+    fn lead(&self, row: InstRow, to: Option<usize>) -> InstRow {
+        InstRow {
+            link: before(row.link, to),
+            ..row
+        }
+    }
+
+    fn follow(&self, row: InstRow, from: Option<usize>) -> InstRow {
+        InstRow {
+            link: behind(row.link, from),
+            ..row
+        }
+    }
+
+    fn next(&self, row: InstRow) -> Option<usize> {
+        row.link.next
+    }
+
+    fn ends(&self, holder: ModRow) -> Ends {
+        holder.insts
+    }
+
+    fn with_ends(&self, holder: ModRow, ends: Ends) -> ModRow {
+        ModRow {
+            insts: ends,
+            ..holder
+        }
+    }
+}
+
+impl Numbered<InstRow> for Insts {
+    ghost number_of = { λ row. row.id.0 };
+
+    fn number(&self, row: InstRow) -> u32 {
+        row.id.0
+    }
+}
+
+impl Chain<InstRow, ModRow> for Users {
+    ghost rows = { user_rows };
+
+    ghost holders = { user_holders };
+
+    fn lead(&self, row: InstRow, to: Option<usize>) -> InstRow {
+        InstRow {
+            user: before(row.user, to),
+            ..row
+        }
+    }
+
+    fn follow(&self, row: InstRow, from: Option<usize>) -> InstRow {
+        InstRow {
+            user: behind(row.user, from),
+            ..row
+        }
+    }
+
+    fn next(&self, row: InstRow) -> Option<usize> {
+        row.user.next
+    }
+
+    fn ends(&self, holder: ModRow) -> Ends {
+        holder.users
+    }
+
+    fn with_ends(&self, holder: ModRow, ends: Ends) -> ModRow {
+        ModRow {
+            users: ends,
+            ..holder
+        }
     }
 }
 

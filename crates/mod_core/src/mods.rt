@@ -1,23 +1,25 @@
-ghost use Rattle.std.specs.Prelude.{◌≡◌, ◌↔◌, ℕ, ◌+◌, ◌-◌, ◌<◌, ◌≤◌, [], ◌∷◌, ◌++◌, length, position, slice_get, bytes_eq, is_some, option_map, option_copied, option_and_then, IsSome, IsTrue, OnOk, OnErr, IfOk, IsSomeAnd, true, false, drop, Some, None};
+ghost use Rattle.std.specs.Prelude.{◌≡◌, ◌↔◌, ℕ, ◌+◌, ◌-◌, ◌<◌, ◌≤◌, List, All, [], ◌∷◌, ◌++◌, length, position, slice_get, bytes_eq, is_some, option_map, option_copied, option_and_then, IsSome, IsTrue, OnOk, OnErr, IfOk, IsSomeAnd, true, false, drop, Some, None};
 ghost use Rattle.timeline.specs.Timeline.{Moves, new_timeline};
 ghost use Rattle.row_chains.specs.Pays.{Pays};
 ghost use Rattle.emh_base.specs.Pool.{with_name, number_in};
+ghost use Rattle.emh_base.specs.declared.plain.PInst.{PInst};
 ghost use Rattle.emh_base.specs.declared.plain.PModule.{PModule};
 ghost use Rattle.flatten_rules.specs.Lookup.{module_of, no_modules};
 ghost use Rattle.flatten_rules.specs.Changes.{net_in, port_in};
 ghost use Rattle.flatten_rules.specs.ModuleChanges.{create_module, delete_module, rename_module, with_lock};
 ghost use Rattle.flatten_rules.specs.NetChanges.{create_net, delete_net, create_port, delete_port, rename_net};
 ghost use Rattle.undo_slots.specs.Slots.{Rows};
+ghost use Rattle.row_chains.specs.declared.link.Ends.{Ends};
 ghost use Rattle.mod_core.specs.declared.rows.ModRow.{ModRow};
 ghost use Rattle.mod_core.specs.declared.rows.NetRow.{NetRow};
 ghost use Rattle.mod_core.specs.inside.Linked.{module_of_row, net_of_row, port_of_row};
-ghost use Rattle.mod_core.specs.Mods.{name_at};
+ghost use Rattle.mod_core.specs.Mods.{name_at, is_used};
 
 use crate::chains::{Modules, Nets, Ports};
 use crate::modules::{module_in, module_out};
 use crate::nets::{net_in, net_out};
 use crate::ports::{port_in, port_out};
-use crate::rows::{ModRow, NetRow, TopRow};
+use crate::rows::{InstRow, ModRow, NetRow, TopRow};
 use emh_base::{Dir, ModId, Name, NetId, NoMemory, Pool, Range};
 use row_chains::{Ends, find_under};
 use std::alloc::Global;
@@ -33,6 +35,7 @@ pub struct Mods {
     tops: Table<TopRow>,
     mods: Table<ModRow>,
     nets: Table<NetRow>,
+    insts: Table<InstRow>,
 }
 
 impl Model for Mods {
@@ -41,9 +44,9 @@ impl Model for Mods {
 
     ghost Value = { KeptTable };
 
-    ghost view = { λ m. kept_of m.names m.top m.tops m.mods m.nets };
+    ghost view = { λ m. kept_of m.names m.top m.tops m.mods m.nets m.insts };
 
-    ghost invariant = { λ m. IsKept m.names m.top m.tops m.mods m.nets };
+    ghost invariant = { λ m. IsKept m.names m.top m.tops m.mods m.nets m.insts };
 }
 
 impl Mods {
@@ -72,6 +75,7 @@ impl Mods {
             tops,
             mods: Table::new(alloc),
             nets: Table::new(alloc),
+            insts: Table::new(alloc),
         })
     }
 
@@ -90,7 +94,8 @@ impl Mods {
         let tops = self.tops.reserve(rows, writes).is_ok();
         let mods = self.mods.reserve(rows, writes).is_ok();
         let nets = self.nets.reserve(rows, writes).is_ok();
-        if tops && mods && nets {
+        let insts = self.insts.reserve(rows, writes).is_ok();
+        if tops && mods && nets && insts {
             Ok(())
         } else {
             Err(NoMemory)
@@ -144,15 +149,28 @@ impl Mods {
         Some(self.module_row(id)?.locked)
     }
 
-    /// Whether a module is there and has no nets and no ports.
+    /// Whether a module is there and has no nets, no ports and no instances.
     pub fn is_empty_module(&self, id: ModId) -> bool
         ensures { IsTrue result ↔ ((m : PModule) × ((module_of self.now.table.now id ≡ Some m)
-            × ((m.nets ≡ []) × (m.ports ≡ [])))) }
+            × ((m.nets ≡ []) × ((m.ports ≡ []) × (m.insts ≡ []))))) }
     {
         match find_under(&Modules, &self.mods, &self.tops, self.top, id.0) {
             Some(key) => {
                 let row = self.mods.get(key).unwrap();
-                row.nets.first.is_none() && row.ports.first.is_none()
+                row.is_bare()
+            }
+            None => false,
+        }
+    }
+
+    /// Whether an instance of a module stands anywhere.
+    pub fn is_used(&self, id: ModId) -> bool
+        ensures { result ≡ is_used self.now.table.now id }
+    {
+        match find_under(&Modules, &self.mods, &self.tops, self.top, id.0) {
+            Some(key) => {
+                let row = self.mods.get(key).unwrap();
+                row.users.first.is_some()
             }
             None => false,
         }
@@ -208,8 +226,9 @@ impl Mods {
 
     /// The row of a module.
     fn module_row(&self, id: ModId) -> Option<ModRow>
-        ensures shown { (nets : Rows NetRow) × (module_of self.now.table.now id
-            ≡ option_map (module_of_row self.now.names nets) result) }
+        ensures shown { (nets : Rows NetRow) × ((within : Ends → List PInst)
+            × (module_of self.now.table.now id
+            ≡ option_map (module_of_row self.now.names nets within) result)) }
         ensures named { (row : ModRow) → result ≡ Some row → row.name < length self.now.names }
     {
         let key = find_under(&Modules, &self.mods, &self.tops, self.top, id.0)?;
@@ -252,6 +271,7 @@ impl Mods {
         self.tops.begin();
         self.mods.begin();
         self.nets.begin();
+        self.insts.begin();
     }
 
     /// Closes the record, and remembers the table where it began. What was taken back is forgotten. Condition: a record
@@ -273,6 +293,7 @@ impl Mods {
         self.tops.commit();
         self.mods.commit();
         self.nets.commit();
+        self.insts.commit();
     }
 
     /// Goes back to where the record began, and closes it. Condition: a record is open.
@@ -290,6 +311,7 @@ impl Mods {
         self.tops.abandon();
         self.mods.abandon();
         self.nets.abandon();
+        self.insts.abandon();
     }
 
     /// Goes back to the last remembered table. Condition: no record is open, and there is such a table.
@@ -309,6 +331,7 @@ impl Mods {
         self.tops.undo();
         self.mods.undo();
         self.nets.undo();
+        self.insts.undo();
     }
 
     /// Goes on to the table that was left last by an undo. Condition: no record is open, and there is such a table.
@@ -328,6 +351,7 @@ impl Mods {
         self.tops.redo();
         self.mods.redo();
         self.nets.redo();
+        self.insts.redo();
     }
 
     /// Forgets the oldest remembered table. Condition: no record is open, and there is such a table.
@@ -344,6 +368,7 @@ impl Mods {
         self.tops.forget();
         self.mods.forget();
         self.nets.forget();
+        self.insts.forget();
     }
 
     /// The number of remembered tables.
@@ -377,13 +402,15 @@ impl Mods {
     }
 
     /// Takes a module without content out of the table. At most four writes. Condition: a record is open, there are
-    /// spare writes, and the module is there, with no nets and no ports, as `is_empty_module` tells.
+    /// spare writes, and the module is there, with nothing in it, as `is_empty_module` tells, and without instances of
+    /// it, as `is_used` tells.
     pub fn delete_module(&mut self, module: ModId)
         requires open { self.old.table.is_open ≡ true }
         requires spare { 3 ≤ self.old.table.spare_writes }
         requires live { IsSome (module_of self.old.table.now «module») }
         requires empty { (m : PModule) → module_of self.old.table.now «module» ≡ Some m
-            → (m.nets ≡ []) × (m.ports ≡ []) }
+            → (m.nets ≡ []) × ((m.ports ≡ []) × (m.insts ≡ [])) }
+        requires unused { is_used self.old.table.now «module» ≡ false }
         ensures names { self.new.names ≡ self.old.names }
         ensures table { self.new.table.now ≡ delete_module self.old.table.now «module» }
         ensures pays { Pays 4 self.old.table self.new.table }

@@ -54,6 +54,8 @@ pub(crate) fn module_in(
         next_inst: 0,
         nets: none,
         ports: none,
+        insts: none,
+        users: none,
     });
     let counted = TopRow {
         next_module: root.next_module + 1,

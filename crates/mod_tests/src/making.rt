@@ -123,6 +123,7 @@ fn change(rt: &impl Abort, mods: &mut Mods, ask: Ask)
     match ask {
         Ask::DeleteModule(module) => {
             assert!(rt; mods.is_empty_module(ModId(module)));
+            assert!(rt; !mods.is_used(ModId(module)));
             mods.delete_module(ModId(module));
         }
         Ask::Lock(module) => {

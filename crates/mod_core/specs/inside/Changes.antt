@@ -42,6 +42,8 @@ new_module top root name = record {
   next_inst = 0;
   nets = empty_chain;
   ports = empty_chain;
+  insts = empty_chain;
+  users = empty_chain;
 }
 
 pub record ModuleIn (tops tops' : Rows TopRow) (mods mods' : Rows ModRow) (top key : ℕ) (root : TopRow)

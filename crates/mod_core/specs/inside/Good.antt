@@ -8,7 +8,8 @@ use Rattle.mod_core.specs.declared.rows.TopRow.{TopRow}
 use Rattle.mod_core.specs.declared.rows.ModRow.{ModRow}
 use Rattle.mod_core.specs.declared.rows.NetRow.{NetRow}
 use Rattle.mod_core.specs.declared.rows.PortRow.{PortRow}
-use Rattle.mod_core.specs.inside.Linked.{mod_rows, mod_holders, net_rows, net_holders, port_rows, port_holders, Upper}
+use Rattle.mod_core.specs.declared.rows.InstRow.{InstRow}
+use Rattle.mod_core.specs.inside.Linked.{mod_rows, mod_holders, net_rows, net_holders, port_rows, port_holders, inst_rows, inst_holders, user_rows, user_holders, Upper, Lower}
 
 -- a module's row, but for its place in chains
 pub record ModFace : Type 0 where
@@ -65,8 +66,35 @@ pub record AreNetsNumbered (count : ℕ) (mods : ℕ → Option ModFace) (face :
 pub record IsGood (count top : ℕ) (up : Upper) (nets : Rows NetRow) : Type 0 where
   pub root : TopRow
   pub rooted : map.get up.tops top ≡ Some root
+  pub alone : (o : ℕ) (r : TopRow) → map.get up.tops o ≡ Some r → o ≡ top
   pub modules : AreChains (links mod_rows up.mods) (ends_in mod_holders up.tops)
   pub nets_of : AreChains (links net_rows nets) (ends_in net_holders up.mods)
   pub ports_of : AreChains (links port_rows nets) (ends_in port_holders up.mods)
   pub mods_numbered : AreModsNumbered count root.next_module (mod_faces up.mods)
   pub nets_numbered : AreNetsNumbered count (mod_faces up.mods) (net_faces nets)
+
+-- instances are numbered as nets are: their module's counter is its next instance's
+
+abbrev pub mod_side : ModRow → ModFace
+mod_side row = record { id = row.id.0; name = row.name; next_net = row.next_inst }
+
+abbrev pub mod_sides : Rows ModRow → ℕ → Option ModFace
+mod_sides mods k = option_map mod_side (map.get mods k)
+
+abbrev pub inst_face : InstRow → NetFace
+inst_face row = record {
+  owner = row.link.owner;
+  id = row.id.0;
+  name = row.name;
+  port_owner = None;
+}
+
+abbrev pub inst_faces : Rows InstRow → ℕ → Option NetFace
+inst_faces insts k = option_map inst_face (map.get insts k)
+
+-- and so are the rows of instances
+pub record IsWhole (count top : ℕ) (low : Lower) (insts : Rows InstRow) : Type 0 where
+  pub good : IsGood count top low.up low.nets
+  pub insts_of : AreChains (links inst_rows insts) (ends_in inst_holders low.up.mods)
+  pub users_of : AreChains (links user_rows insts) (ends_in user_holders low.up.mods)
+  pub insts_numbered : AreNetsNumbered count (mod_sides low.up.mods) (inst_faces insts)

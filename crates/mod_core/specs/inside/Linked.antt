@@ -1,9 +1,13 @@
 -- The rows of the kept tables, seen as a module table.
-use Rattle.std.specs.Prelude.{◌≡◌, ℕ, List, [], Option, Some, None, option_map, option_and_then, refl}
-use Rattle.std.specs.FinMap as map
+use Rattle.std.specs.Prelude.{◌≡◌, ℕ, List, Option, Some, None, option_map, option_and_then, map, refl}
+use Rattle.std.specs.FinMap as rows
+use Rattle.emh_base.specs.declared.ids.ModId.{ModId}
 use Rattle.emh_base.specs.declared.ids.NetId.{NetId}
+use Rattle.emh_base.specs.declared.plain.Conn.{Conn}
+use Rattle.emh_base.specs.declared.plain.Conn.TheVariants.{Open}
 use Rattle.emh_base.specs.declared.plain.PNet.{PNet}
 use Rattle.emh_base.specs.declared.plain.PPort.{PPort}
+use Rattle.emh_base.specs.declared.plain.PInst.{PInst}
 use Rattle.emh_base.specs.declared.plain.PModule.{PModule}
 use Rattle.emh_base.specs.declared.plain.Plain.{Plain}
 use Rattle.flatten_rules.specs.Lookup.{no_modules}
@@ -16,6 +20,7 @@ use Rattle.mod_core.specs.declared.rows.TopRow.{TopRow}
 use Rattle.mod_core.specs.declared.rows.ModRow.{ModRow}
 use Rattle.mod_core.specs.declared.rows.NetRow.{NetRow}
 use Rattle.mod_core.specs.declared.rows.PortRow.{PortRow}
+use Rattle.mod_core.specs.declared.rows.InstRow.{InstRow}
 use Rattle.mod_core.specs.Mods.{name_at}
 
 -- a link with another neighbour
@@ -105,6 +110,44 @@ port_holders = record {
   as_it_was = λ row. refl;
 }
 
+-- the instances of a module
+
+abbrev pub inst_rows : ChainRows InstRow
+inst_rows = record {
+  link_of = λ row. Some row.link;
+  lead = λ row to. record row { link = leading row.link to };
+  follow = λ row from. record row { link = following row.link from };
+  leads = λ row to. refl;
+  follows = λ row from. refl;
+}
+
+abbrev pub inst_holders : ChainHolders ModRow
+inst_holders = record {
+  ends_of = λ row. row.insts;
+  with_ends = λ row ends. record row { insts = ends };
+  holds = λ row ends. refl;
+  as_it_was = λ row. refl;
+}
+
+-- the users of a master, which are its instances
+
+abbrev pub user_rows : ChainRows InstRow
+user_rows = record {
+  link_of = λ row. Some row.user;
+  lead = λ row to. record row { user = leading row.user to };
+  follow = λ row from. record row { user = following row.user from };
+  leads = λ row to. refl;
+  follows = λ row from. refl;
+}
+
+abbrev pub user_holders : ChainHolders ModRow
+user_holders = record {
+  ends_of = λ row. row.users;
+  with_ends = λ row ends. record row { users = ends };
+  holds = λ row ends. refl;
+  as_it_was = λ row. refl;
+}
+
 -- what rows show
 
 abbrev pub net_of_row : List (List ℕ) → NetRow → PNet
@@ -118,10 +161,10 @@ abbrev pub port_of_row : NetRow → Option PPort
 port_of_row row = option_map (port_on row.id) row.port
 
 abbrev pub net_shown : List (List ℕ) → Rows NetRow → ℕ → Option PNet
-net_shown names nets k = option_map (net_of_row names) (map.get nets k)
+net_shown names nets k = option_map (net_of_row names) (rows.get nets k)
 
 abbrev pub port_shown : Rows NetRow → ℕ → Option PPort
-port_shown nets k = option_and_then port_of_row (map.get nets k)
+port_shown nets k = option_and_then port_of_row (rows.get nets k)
 
 abbrev pub nets_from : List (List ℕ) → Rows NetRow → Ends → List PNet
 nets_from names nets ends = listed net_rows (net_shown names nets) nets ends.first
@@ -129,30 +172,74 @@ nets_from names nets ends = listed net_rows (net_shown names nets) nets ends.fir
 abbrev pub ports_from : Rows NetRow → Ends → List PPort
 ports_from nets ends = listed port_rows (port_shown nets) nets ends.first
 
-abbrev pub module_of_row : List (List ℕ) → Rows NetRow → ModRow → PModule
-module_of_row names nets row = record {
+-- what an instance shows of its master: its id, and at each port a connection that is Open
+pub record Master : Type 0 where
+  pub id : ModId
+  pub conns : List Conn
+
+abbrev pub opens : List PPort → List Conn
+opens ports = map (λ port. Open) ports
+
+abbrev pub master_of_row : Rows NetRow → ModRow → Master
+master_of_row nets row = record { id = row.id; conns = opens (ports_from nets row.ports) }
+
+abbrev pub master_at : Rows ModRow → Rows NetRow → ℕ → Option Master
+master_at mods nets k = option_map (master_of_row nets) (rows.get mods k)
+
+abbrev pub inst_of : List (List ℕ) → InstRow → Master → PInst
+inst_of names row master = record {
+  id = row.id;
+  name = name_at names row.name;
+  master = master.id;
+  conns = master.conns;
+}
+
+abbrev pub inst_of_row : List (List ℕ) → (ℕ → Option Master) → InstRow → Option PInst
+inst_of_row names masters row = option_map (inst_of names row) (masters row.user.owner)
+
+abbrev pub inst_shown : List (List ℕ) → (ℕ → Option Master) → Rows InstRow → ℕ → Option PInst
+inst_shown names masters insts k = option_and_then (inst_of_row names masters) (rows.get insts k)
+
+abbrev pub insts_from : List (List ℕ) → (ℕ → Option Master) → Rows InstRow → Ends → List PInst
+insts_from names masters insts ends =
+    listed inst_rows (inst_shown names masters insts) insts ends.first
+
+-- the instances between two ends
+abbrev pub within_of : List (List ℕ) → Rows ModRow → Rows NetRow → Rows InstRow → Ends → List PInst
+within_of names mods nets insts ends = insts_from names (master_at mods nets) insts ends
+
+-- what modules show, where so many instances stand between two ends
+
+abbrev pub module_of_row : List (List ℕ) → Rows NetRow → (Ends → List PInst) → ModRow → PModule
+module_of_row names nets within row = record {
   id = row.id;
   name = name_at names row.name;
   leaf = row.leaf;
   locked = row.locked;
   nets = nets_from names nets row.nets;
   ports = ports_from nets row.ports;
-  insts = [];
+  insts = within row.insts;
   next_net = row.next_net;
   next_inst = row.next_inst;
 }
 
-abbrev pub module_shown : List (List ℕ) → Rows ModRow → Rows NetRow → ℕ → Option PModule
-module_shown names mods nets k = option_map (module_of_row names nets) (map.get mods k)
+abbrev pub module_shown : List (List ℕ) → Rows ModRow → Rows NetRow → (Ends → List PInst) → ℕ
+    → Option PModule
+module_shown names mods nets within k =
+    option_map (module_of_row names nets within) (rows.get mods k)
 
-abbrev pub modules_from : List (List ℕ) → Rows ModRow → Rows NetRow → Ends → List PModule
-modules_from names mods nets ends =
-    listed mod_rows (module_shown names mods nets) mods ends.first
+abbrev pub modules_from : List (List ℕ) → Rows ModRow → Rows NetRow → (Ends → List PInst) → Ends
+    → List PModule
+modules_from names mods nets within ends =
+    listed mod_rows (module_shown names mods nets within) mods ends.first
 
-abbrev pub table_from : List (List ℕ) → Rows ModRow → Rows NetRow → Option TopRow → Plain
-table_from names mods nets None = no_modules
-table_from names mods nets (Some top) =
-    record { modules = modules_from names mods nets top.modules; next_module = top.next_module }
+abbrev pub table_from : List (List ℕ) → Rows ModRow → Rows NetRow → (Ends → List PInst)
+    → Option TopRow → Plain
+table_from names mods nets within None = no_modules
+table_from names mods nets within (Some top) = record {
+  modules = modules_from names mods nets within top.modules;
+  next_module = top.next_module;
+}
 
 -- the rows of the top and of the modules in one moment
 pub record Upper : Type 0 where
@@ -162,6 +249,20 @@ pub record Upper : Type 0 where
 abbrev pub upper : Rows TopRow → Rows ModRow → Upper
 upper tops mods = record { tops = tops; mods = mods }
 
--- the module table of one moment
-abbrev pub table_of : List (List ℕ) → ℕ → Upper → Rows NetRow → Plain
-table_of names top up nets = table_from names up.mods nets (map.get up.tops top)
+-- and those of the nets
+pub record Lower : Type 0 where
+  pub up : Upper
+  pub nets : Rows NetRow
+
+abbrev pub lower : Upper → Rows NetRow → Lower
+lower up nets = record { up = up; nets = nets }
+
+-- the module table of one moment, with these instances
+
+abbrev pub table_of : List (List ℕ) → ℕ → Upper → Rows NetRow → (Ends → List PInst) → Plain
+table_of names top up nets within =
+    table_from names up.mods nets within (rows.get up.tops top)
+
+abbrev pub whole_of : List (List ℕ) → ℕ → Lower → Rows InstRow → Plain
+whole_of names top low insts =
+    table_of names top low.up low.nets (within_of names low.up.mods low.nets insts)

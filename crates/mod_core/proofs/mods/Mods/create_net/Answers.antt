@@ -4,9 +4,12 @@ use Rattle.flatten_rules.specs.Lookup.{module_of}
 use Rattle.row_chains.proofs.KeyLemmas.{same_some}
 use Rattle.row_chains.proofs.PaysLemmas.{Pays-none}
 use Rattle.mod_core.specs.declared.rows.ModRow.{ModRow}
+use Rattle.flatten_rules.specs.NetChanges.{create_net}
+use Rattle.mod_core.specs.Mods.{name_at}
 use Rattle.mod_core.specs.Mods.{KeptTable}
-use Rattle.mod_core.specs.inside.Linked.{module_of_row, upper}
+use Rattle.mod_core.specs.inside.Linked.{table_of, within_of, module_of_row, upper}
 use Rattle.mod_core.proofs.KeptLemmas.{kept_paid}
+use Rattle.mod_core.proofs.WholeLemmas.{whole_same}
 use Rattle.mod_core.proofs.LookupLemmas.{live_key, found_module}
 use Rattle.mod_core.proofs.EffectLemmas.{net_made}
 use Rattle.mod_core.proofs.mods.Mods.create_net.Goals as goal
@@ -15,23 +18,23 @@ pub unwrap-owner-requires : goal.unwrap-owner-requires
 unwrap-owner-requires c =
     let i = c.self.inside in
     ap is_some c.find_under.ensures
-    ∙ live_key i.names i.top (upper i.tops.now i.mods.now) i.nets.now c.self.invariant.all.now c.args.«module» (ap (λ (v : KeptTable). is_some (module_of v.table.now c.args.«module»)) c.self.view_is ∙ c.requires.live)
+    ∙ live_key i.names i.top (upper i.tops.now i.mods.now) i.nets.now (within_of i.names i.mods.now i.nets.now i.insts.now) c.self.invariant.all.now.good c.args.«module» (ap (λ (v : KeptTable). is_some (module_of v.table.now c.args.«module»)) c.self.view_is ∙ c.requires.live)
 
 pub unwrap-row-requires : goal.unwrap-row-requires
 unwrap-row-requires c =
     let i = c.self.inside in
     let named = sym c.find_under.ensures ∙ c.unwrap-owner.ensures in
-    ap is_some c.get.ensures ∙ ap is_some (found_module i.names i.top (upper i.tops.now i.mods.now) i.nets.now c.self.invariant.all.now c.args.«module» c.unwrap-owner.result named).at
+    ap is_some c.get.ensures ∙ ap is_some (found_module i.names i.top (upper i.tops.now i.mods.now) i.nets.now (within_of i.names i.mods.now i.nets.now i.insts.now) c.self.invariant.all.now.good c.args.«module» c.unwrap-owner.result named).at
 
 pub net_in-requires-clause-few : goal.net_in-requires-clause-few
 net_in-requires-clause-few c =
     let i = c.self.inside in
     let named = sym c.find_under.ensures ∙ c.unwrap-owner.ensures in
-    let m = found_module i.names i.top (upper i.tops.now i.mods.now) i.nets.now c.self.invariant.all.now c.args.«module» c.unwrap-owner.result named in
+    let m = found_module i.names i.top (upper i.tops.now i.mods.now) i.nets.now (within_of i.names i.mods.now i.nets.now i.insts.now) c.self.invariant.all.now.good c.args.«module» c.unwrap-owner.result named in
     let at : map.get i.mods.now c.unwrap-owner.result ≡ Some c.unwrap-row.result = sym c.get.ensures ∙ c.unwrap-row.ensures in
     let same : m.row ≡ c.unwrap-row.result = same_some m.row c.unwrap-row.result (sym m.at ∙ at) in
     subst (λ (r : ModRow). r.next_net < 4294967295) same
-    (c.requires.few (module_of_row i.names i.nets.now m.row) (ap (λ (v : KeptTable). module_of v.table.now c.args.«module») (sym c.self.view_is) ∙ m.shown))
+    (c.requires.few (module_of_row i.names i.nets.now (within_of i.names i.mods.now i.nets.now i.insts.now) m.row) (ap (λ (v : KeptTable). module_of v.table.now c.args.«module») (sym c.self.view_is) ∙ m.shown))
 
 pub invariant_of-self : goal.invariant_of-self
 invariant_of-self c =
@@ -40,8 +43,8 @@ invariant_of-self c =
     let named = sym c.find_under.ensures ∙ c.unwrap-owner.ensures in
     let at : map.get i.mods.now c.unwrap-owner.result ≡ Some c.unwrap-row.result = sym c.get.ensures ∙ c.unwrap-row.ensures in
     let few = subst (λ ns. c.args.name < length ns) (ap (λ (v : KeptTable). v.names) (sym c.self.view_is)) c.requires.name in
-    let made = net_made i.names i.top i.tops.now i.mods.now i.nets.now g c.args.«module» c.unwrap-owner.result named c.net_in.new.mods.now c.net_in.new.nets.now c.unwrap-row.result c.net_in.result c.args.name c.args.range at few (c.net_in.ensures.effect c.unwrap-row.result at) in
-    kept_paid i.names i.top i.tops i.mods i.nets c.self.invariant i.tops c.net_in.new.mods c.net_in.new.nets 0 1 2 (Pays-none i.tops) c.net_in.ensures.mods_pay c.net_in.ensures.nets_pay made.good
+    kept_paid i.names i.top i.tops i.mods i.nets i.insts c.self.invariant i.tops c.net_in.new.mods c.net_in.new.nets i.insts 0 1 2 0 (Pays-none i.tops) c.net_in.ensures.mods_pay c.net_in.ensures.nets_pay
+    (Pays-none i.insts) (whole_same i.names i.top (upper i.tops.now i.mods.now) i.nets.now i.insts.now g (create_net (table_of i.names i.top (upper i.tops.now i.mods.now) i.nets.now (within_of i.names i.mods.now i.nets.now i.insts.now)) c.args.«module» (name_at i.names c.args.name) c.args.range) i.tops.now c.net_in.new.mods.now c.net_in.new.nets.now (net_made i.names i.top i.tops.now i.mods.now i.nets.now (within_of i.names i.mods.now i.nets.now i.insts.now) g.good c.args.«module» c.unwrap-owner.result named c.net_in.new.mods.now c.net_in.new.nets.now c.unwrap-row.result c.net_in.result c.args.name c.args.range at few (c.net_in.ensures.effect c.unwrap-row.result at))).good
 
 pub returns-clause-table : goal.returns-clause-table
 returns-clause-table c =
@@ -51,4 +54,4 @@ returns-clause-table c =
     let at : map.get i.mods.now c.unwrap-owner.result ≡ Some c.unwrap-row.result = sym c.get.ensures ∙ c.unwrap-row.ensures in
     let few = subst (λ ns. c.args.name < length ns) (ap (λ (v : KeptTable). v.names) (sym c.self.view_is)) c.requires.name in
     rw (← c.self.view_is)
-    (net_made i.names i.top i.tops.now i.mods.now i.nets.now g c.args.«module» c.unwrap-owner.result named c.net_in.new.mods.now c.net_in.new.nets.now c.unwrap-row.result c.net_in.result c.args.name c.args.range at few (c.net_in.ensures.effect c.unwrap-row.result at)).table
+    (whole_same i.names i.top (upper i.tops.now i.mods.now) i.nets.now i.insts.now g (create_net (table_of i.names i.top (upper i.tops.now i.mods.now) i.nets.now (within_of i.names i.mods.now i.nets.now i.insts.now)) c.args.«module» (name_at i.names c.args.name) c.args.range) i.tops.now c.net_in.new.mods.now c.net_in.new.nets.now (net_made i.names i.top i.tops.now i.mods.now i.nets.now (within_of i.names i.mods.now i.nets.now i.insts.now) g.good c.args.«module» c.unwrap-owner.result named c.net_in.new.mods.now c.net_in.new.nets.now c.unwrap-row.result c.net_in.result c.args.name c.args.range at few (c.net_in.ensures.effect c.unwrap-row.result at))).table

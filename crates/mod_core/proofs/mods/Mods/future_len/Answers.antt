@@ -7,5 +7,5 @@ pub returns : goal.returns
 returns c =
     let i = c.self.inside in
     c.future_len.ensures
-    ∙ sym (lengths i.names i.top i.tops i.mods i.nets c.self.invariant).nets_future
+    ∙ sym (lengths i.names i.top i.tops i.mods i.nets i.insts c.self.invariant).nets_future
     ∙ ap (λ (v : KeptTable). length v.table.future) c.self.view_is

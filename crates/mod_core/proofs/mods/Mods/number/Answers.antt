@@ -4,10 +4,10 @@ use Rattle.mod_core.proofs.mods.Mods.number.Goals as goal
 pub invariant_of-self : goal.invariant_of-self
 invariant_of-self c =
     let i = c.self.inside in
-    kept_named i.names c.number.new.self i.top (numbered_names c.number.result i.names c.number.new.self c.args.name c.number.ensures.names c.number.ensures.err) i.tops i.mods i.nets c.self.invariant
+    kept_named i.names c.number.new.self i.top (numbered_names c.number.result i.names c.number.new.self c.args.name c.number.ensures.names c.number.ensures.err) i.tops i.mods i.nets i.insts c.self.invariant
 
 pub returns-clause-table : goal.returns-clause-table
 returns-clause-table c =
     let i = c.self.inside in
     rw (← c.self.view_is)
-    (whole_named i.names c.number.new.self i.top (numbered_names c.number.result i.names c.number.new.self c.args.name c.number.ensures.names c.number.ensures.err) i.tops i.mods i.nets c.self.invariant)
+    (whole_named i.names c.number.new.self i.top (numbered_names c.number.result i.names c.number.new.self c.args.name c.number.ensures.names c.number.ensures.err) i.tops i.mods i.nets i.insts c.self.invariant)

@@ -7,5 +7,5 @@ pub returns : goal.returns
 returns c =
     let i = c.self.inside in
     c.past_len.ensures
-    ∙ sym (lengths i.names i.top i.tops i.mods i.nets c.self.invariant).nets_past
+    ∙ sym (lengths i.names i.top i.tops i.mods i.nets i.insts c.self.invariant).nets_past
     ∙ ap (λ (v : KeptTable). length v.table.past) c.self.view_is
