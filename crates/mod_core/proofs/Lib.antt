@@ -13,3 +13,7 @@ pub mod NameLemmas
 pub mod OnceLemmas
 pub mod WholeLemmas
 pub mod UserLemmas
+pub mod RowLemmas
+pub mod InstLemmas
+pub mod InstOutLemmas
+pub mod InstEffectLemmas

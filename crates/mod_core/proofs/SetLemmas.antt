@@ -47,8 +47,8 @@ set_pays S T x few e =
       spare = omega (arith, writes, spare, few);
     }
 
-pub spare_in : (a b c d : ℕ) → 1 ≤ min (min (min a b) c) d → (1 ≤ b) × (1 ≤ c)
-spare_in a b c d few = (omega (arith, few), omega (arith, few))
+pub spare_in : (a b c d : ℕ) → 1 ≤ min (min (min a b) c) d → (1 ≤ b) × ((1 ≤ c) × (1 ≤ d))
+spare_in a b c d few = (omega (arith, few), (omega (arith, few), omega (arith, few)))
 
 -- a module with another name, locked or not
 module _ (names : List (List ℕ)) (top : ℕ) (up : Upper) (nets : Rows NetRow) (within : Ends → List PInst) (g : IsGood (length names) top up nets) (owner : ℕ) (row : ModRow) (was : rows.get up.mods owner ≡ Some row) (name : ℕ) (locked : Bool) (few : name < length names) where

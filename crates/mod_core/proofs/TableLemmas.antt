@@ -72,7 +72,7 @@ module _ (names : List (List ℕ)) (top : ℕ) (up : Upper) (mods' : Rows ModRow
     | inr d ↦ record { was = a; at = old_face k a d at; id = refl; named = g.mods_numbered.named k a (old_face k a d at) }
   ])
 
-  counted_by : (F : ModRow → ModFace) → (F row).next_net ≤ (F row').next_net → (o : ℕ) (a : ModFace) → option_map F (rows.get mods' o) ≡ Some a → WasCounted (λ k. option_map F (rows.get up.mods k)) o a
+  pub counted_by : (F : ModRow → ModFace) → (F row).next_net ≤ (F row').next_net → (o : ℕ) (a : ModFace) → option_map F (rows.get mods' o) ≡ Some a → WasCounted (λ k. option_map F (rows.get up.mods k)) o a
   counted_by F grows o a at = elim (cases_eq o owner) [
     | inl e ↦
         let is : F row' ≡ a = same_some (F row') a (sym (ap (option_map F) (ap (rows.get mods') e ∙ becomes)) ∙ at) in

@@ -2,6 +2,7 @@
 #![tactic(auto)]
 
 mod chains;
+mod insts;
 mod mods;
 mod modules;
 mod nets;

@@ -5,7 +5,8 @@ ghost use Rattle.emh_base.specs.Pool.{with_name, number_in};
 ghost use Rattle.emh_base.specs.declared.plain.PInst.{PInst};
 ghost use Rattle.emh_base.specs.declared.plain.PModule.{PModule};
 ghost use Rattle.flatten_rules.specs.Lookup.{module_of, no_modules};
-ghost use Rattle.flatten_rules.specs.Changes.{net_in, port_in};
+ghost use Rattle.flatten_rules.specs.Changes.{net_in, port_in, inst_in};
+ghost use Rattle.flatten_rules.specs.InstChanges.{create_inst, delete_inst, rename_inst};
 ghost use Rattle.flatten_rules.specs.ModuleChanges.{create_module, delete_module, rename_module, with_lock};
 ghost use Rattle.flatten_rules.specs.NetChanges.{create_net, delete_net, create_port, delete_port, rename_net};
 ghost use Rattle.undo_slots.specs.Slots.{Rows};
@@ -15,12 +16,13 @@ ghost use Rattle.mod_core.specs.declared.rows.NetRow.{NetRow};
 ghost use Rattle.mod_core.specs.inside.Linked.{module_of_row, net_of_row, port_of_row};
 ghost use Rattle.mod_core.specs.Mods.{name_at, is_used};
 
-use crate::chains::{Modules, Nets, Ports};
+use crate::chains::{Insts, Modules, Nets, Ports};
+use crate::insts::{inst_in, inst_out};
 use crate::modules::{module_in, module_out};
 use crate::nets::{net_in, net_out};
 use crate::ports::{port_in, port_out};
 use crate::rows::{InstRow, ModRow, NetRow, TopRow};
-use emh_base::{Dir, ModId, Name, NetId, NoMemory, Pool, Range};
+use emh_base::{Dir, InstId, ModId, Name, NetId, NoMemory, Pool, Range};
 use row_chains::{Ends, find_under};
 use std::alloc::Global;
 use std::marker::Model;
@@ -544,5 +546,61 @@ impl Mods {
         let row = net.port.unwrap();
         port_out(&mut self.mods, &mut self.nets, key, net, row);
         net_out(&mut self.mods, &mut self.nets, key);
+    }
+    /// Puts a new instance of a module last in a module, with each of its ports open. Its id is the module's counter. At
+    /// most five writes. Condition: a record is open, there are spare rows and writes, the name is the pool's, both
+    /// modules are there, and the counter has not come to its end.
+    pub fn create_inst(&mut self, module: ModId, name: usize, master: ModId)
+        requires open { self.old.table.is_open ≡ true }
+        requires room { 1 ≤ self.old.table.spare_rows }
+        requires spare { 3 ≤ self.old.table.spare_writes }
+        requires name { name < length self.old.names }
+        requires live { IsSome (module_of self.old.table.now «module») }
+        requires master { IsSome (module_of self.old.table.now master) }
+        requires few { (m : PModule) → module_of self.old.table.now «module» ≡ Some m
+            → m.next_inst < 4294967295 }
+        ensures names { self.new.names ≡ self.old.names }
+        ensures table { self.new.table.now
+            ≡ create_inst self.old.table.now «module» (name_at self.old.names name) master }
+        ensures pays { Pays 5 self.old.table self.new.table }
+    {
+        let owner = find_under(&Modules, &self.mods, &self.tops, self.top, module.0).unwrap();
+        let user = find_under(&Modules, &self.mods, &self.tops, self.top, master.0).unwrap();
+        let row = self.mods.get(owner).unwrap();
+        let id = InstId(row.next_inst);
+        inst_in(&mut self.mods, &mut self.insts, owner, user, id, name);
+    }
+
+    /// Takes an instance with its connections out of its module. At most seven writes. Condition: a record is open,
+    /// there are spare writes, and the instance is there.
+    pub fn delete_inst(&mut self, module: ModId, inst: InstId)
+        requires open { self.old.table.is_open ≡ true }
+        requires spare { 5 ≤ self.old.table.spare_writes }
+        requires live { IsSome (inst_in self.old.table.now «module» inst) }
+        ensures names { self.new.names ≡ self.old.names }
+        ensures table { self.new.table.now ≡ delete_inst self.old.table.now «module» inst }
+        ensures pays { Pays 7 self.old.table self.new.table }
+    {
+        let owner = find_under(&Modules, &self.mods, &self.tops, self.top, module.0).unwrap();
+        let key = find_under(&Insts, &self.insts, &self.mods, owner, inst.0).unwrap();
+        inst_out(&mut self.mods, &mut self.insts, key);
+    }
+
+    /// Gives an instance another name. At most one write. Condition: a record is open, there is a spare write, the name
+    /// is the pool's, and the instance is there.
+    pub fn rename_inst(&mut self, module: ModId, inst: InstId, name: usize)
+        requires open { self.old.table.is_open ≡ true }
+        requires spare { 1 ≤ self.old.table.spare_writes }
+        requires name { name < length self.old.names }
+        requires live { IsSome (inst_in self.old.table.now «module» inst) }
+        ensures names { self.new.names ≡ self.old.names }
+        ensures table { self.new.table.now
+            ≡ rename_inst self.old.table.now «module» inst (name_at self.old.names name) }
+        ensures pays { Pays 1 self.old.table self.new.table }
+    {
+        let owner = find_under(&Modules, &self.mods, &self.tops, self.top, module.0).unwrap();
+        let key = find_under(&Insts, &self.insts, &self.mods, owner, inst.0).unwrap();
+        let row = self.insts.get(key).unwrap();
+        self.insts.set(key, InstRow { name, ..row });
     }
 }

@@ -13,7 +13,8 @@ use Rattle.mod_core.specs.declared.rows.TopRow.{TopRow}
 use Rattle.mod_core.specs.declared.rows.ModRow.{ModRow}
 use Rattle.mod_core.specs.declared.rows.NetRow.{NetRow}
 use Rattle.mod_core.specs.declared.rows.PortRow.{PortRow}
-use Rattle.mod_core.specs.inside.Linked.{mod_rows, mod_holders, net_rows, net_holders, port_rows, port_holders}
+use Rattle.mod_core.specs.declared.rows.InstRow.{InstRow}
+use Rattle.mod_core.specs.inside.Linked.{mod_rows, mod_holders, net_rows, net_holders, port_rows, port_holders, inst_rows, inst_holders, user_rows, user_holders}
 
 abbrev pub empty_chain : Ends
 empty_chain = record { first = None; last = None }
@@ -107,3 +108,41 @@ pub record PortOut (mods mods' : Rows ModRow) (nets nets' : Rows NetRow) (key : 
   pub mods_are : mods' ≡ joined_ends port_holders mods port.link
   pub nets_are : nets' ≡ map.insert (joined_rows port_rows nets port.link) key
       (record net { port = None })
+
+-- an instance comes last in its module, and among the users of its master
+
+abbrev pub new_inst : ℕ → ModRow → ℕ → ModRow → ℕ → ℕ → InstRow
+new_inst owner row master used id name = record {
+  link = record { owner = owner; prev = row.insts.last; next = None };
+  id = record { 0 = id };
+  name = name;
+  user = record { owner = master; prev = used.users.last; next = None };
+}
+
+abbrev pub with_last_inst : ℕ → ℕ → ModRow → ModRow
+with_last_inst id key row = record row { next_inst = id + 1; insts = ends_with row.insts key }
+
+-- the row may be that of the module that holds the instance
+abbrev pub with_last_user : ℕ → ModRow → ModRow
+with_last_user key row = record row { users = ends_with row.users key }
+
+-- a row is changed where it stands
+abbrev pub changed_at : {R : Type 0} → Rows R → ℕ → (R → R) → Rows R
+changed_at m key change = put m key (option_map change (map.get m key))
+
+pub record InstIn (mods mods' : Rows ModRow) (insts insts' : Rows InstRow) (owner master key : ℕ)
+    (row used : ModRow) (id name : ℕ) : Type 0 where
+  pub absent : map.get insts key ≡ None
+  pub mods_are : mods' ≡ changed_at (map.insert mods owner (with_last_inst id key row)) master
+      (with_last_user key)
+  pub insts_are : insts' ≡ lead_at user_rows
+      (lead_at inst_rows (map.insert insts key (new_inst owner row master used id name))
+      row.insts.last (Some key))
+      used.users.last (Some key)
+
+-- an instance goes
+
+pub record InstOut (mods mods' : Rows ModRow) (insts insts' : Rows InstRow) (key : ℕ) (row : InstRow) : Type 0 where
+  pub mods_are : mods' ≡ joined_ends user_holders (joined_ends inst_holders mods row.link) row.user
+  pub insts_are : insts' ≡ map.remove
+      (joined_rows user_rows (joined_rows inst_rows insts row.link) row.user) key

@@ -52,7 +52,7 @@ invariant_of-self c =
     let few = subst (λ ns. c.args.name < length ns) (ap (λ (v : KeptTable). v.names) (sym c.self.view_is)) c.requires.name in
     let spare = subst (λ (v : KeptTable). 1 ≤ v.table.spare_writes) (sym c.self.view_is) c.requires.spare in
     kept_paid i.names i.top i.tops i.mods i.nets i.insts c.self.invariant i.tops i.mods c.set.new.self i.insts 0 0 1 0 (Pays-none i.tops) (Pays-none i.mods)
-    (set_pays i.nets c.set.new.self _ (spare_in i.tops.spare_writes i.mods.spare_writes i.nets.spare_writes i.insts.spare_writes spare).1 c.set.ensures)
+    (set_pays i.nets c.set.new.self _ (spare_in i.tops.spare_writes i.mods.spare_writes i.nets.spare_writes i.insts.spare_writes spare).1.0 c.set.ensures)
     (Pays-none i.insts) (whole_same i.names i.top (upper i.tops.now i.mods.now) i.nets.now i.insts.now g (rename_net (table_of i.names i.top (upper i.tops.now i.mods.now) i.nets.now (within_of i.names i.mods.now i.nets.now i.insts.now)) c.args.«module» c.args.net (name_at i.names c.args.name)) i.tops.now i.mods.now c.set.new.self.now (net_renamed i.names i.top i.tops.now i.mods.now i.nets.now (within_of i.names i.mods.now i.nets.now i.insts.now) g.good c.args.«module» c.unwrap-owner.result named c.args.net c.unwrap-key.result (sym c.find_under-2.ensures ∙ c.unwrap-key.ensures) c.set.new.self.now c.unwrap-row.result c.args.name at few (ap (λ (s : Timeline (Rows NetRow)). s.now) c.set.ensures))).good
 
 pub returns-clause-table : goal.returns-clause-table
