@@ -225,21 +225,21 @@ module _ (names : List (List ℕ)) (top : ℕ) (tops : Rows TopRow) (mods : Rows
 
   other_row : (k : ℕ) (o : Option InstRow) (l : Link) → rows.get insts k ≡ o → k ≢ key → option_and_then inst_rows.link_of o ≡ Some l → l.owner ≡ inst.link.owner
       → option_and_then (inst_of_row names (master_at mods nets)) o ≡ option_map renames (option_and_then (inst_of_row names (master_at mods nets)) o)
-  other_row k None l is d linked of = refl
-  other_row k (Some r) l is d linked of = apart r (λ e. d (w.insts_numbered.one k key (inst_face r) (inst_face inst) (ap (option_map inst_face) is) (ap (option_map inst_face) at) (ap (λ (z : Link). z.owner) (same_some r.link l linked) ∙ of) e)) (master_at mods nets r.user.owner)
+  other_row k None l is d chained of = refl
+  other_row k (Some r) l is d chained of = apart r (λ e. d (w.insts_numbered.one k key (inst_face r) (inst_face inst) (ap (option_map inst_face) is) (ap (option_map inst_face) at) (ap (λ (z : Link). z.owner) (same_some r.link l chained) ∙ of) e)) (master_at mods nets r.user.owner)
 
   shown : (k : ℕ) (l : Link) → links inst_rows insts k ≡ Some l → l.owner ≡ inst.link.owner → shown_by insts_set k ≡ option_map renames (shown_by insts k)
-  shown k l linked of = elim (cases_eq k key) [
+  shown k l chained of = elim (cases_eq k key) [
     | inl e ↦
         ap (option_and_then (inst_of_row names (master_at mods nets))) (ap (rows.get insts_set) e ∙ get_same insts key (Some named))
         ∙ here (master_at mods nets inst.user.owner)
         ∙ sym (ap (λ o. option_map renames (option_and_then (inst_of_row names (master_at mods nets)) o)) (ap (rows.get insts) e ∙ at))
-    | inr d ↦ ap (option_and_then (inst_of_row names (master_at mods nets))) (get_other insts key (Some named) k d) ∙ other_row k (rows.get insts k) l refl d linked of
+    | inr d ↦ ap (option_and_then (inst_of_row names (master_at mods nets))) (get_other insts key (Some named) k d) ∙ other_row k (rows.get insts k) l refl d chained of
   ]
 
   shown_other : (o : ℕ) → o ≢ inst.link.owner → (k : ℕ) (l : Link) → links inst_rows insts k ≡ Some l → l.owner ≡ o → shown_by insts_set k ≡ shown_by insts k
-  shown_other o d k l linked of = elim (cases_eq k key) [
-    | inl e ↦ absurd (d (sym of ∙ ap (λ (z : Link). z.owner) (same_some l inst.link (sym linked ∙ ap (links inst_rows insts) e ∙ ap (option_and_then inst_rows.link_of) at))))
+  shown_other o d k l chained of = elim (cases_eq k key) [
+    | inl e ↦ absurd (d (sym of ∙ ap (λ (z : Link). z.owner) (same_some l inst.link (sym chained ∙ ap (links inst_rows insts) e ∙ ap (option_and_then inst_rows.link_of) at))))
     | inr c ↦ ap (option_and_then (inst_of_row names (master_at mods nets))) (get_other insts key (Some named) k c)
   ]
 
@@ -247,7 +247,7 @@ module _ (names : List (List ℕ)) (top : ℕ) (tops : Rows TopRow) (mods : Rows
   renamed_here = listed-mapped inst_rows insts insts_set (ends_in inst_holders mods) w.insts_of inst_links (shown_by insts) (shown_by insts_set) renames inst.link.owner row.insts (ap (option_map inst_holders.ends_of) was) shown
 
   renamed_other : (o : ℕ) (r : ModRow) → o ≢ inst.link.owner → rows.get mods o ≡ Some r → within_of names mods nets insts_set r.insts ≡ within_of names mods nets insts r.insts
-  renamed_other o r d there = listed-same inst_rows insts insts_set (ends_in inst_holders mods) w.insts_of inst_links (shown_by insts) (shown_by insts_set) o r.insts (ap (option_map inst_holders.ends_of) there) (λ k l linked of. shown_other o d k l linked of)
+  renamed_other o r d there = listed-same inst_rows insts insts_set (ends_in inst_holders mods) w.insts_of inst_links (shown_by insts) (shown_by insts_set) o r.insts (ap (option_map inst_holders.ends_of) there) (λ k l chained of. shown_other o d k l chained of)
 
   pub inst_set_whole : ShowsWhole names top (with_module (table_of names top (upper tops mods) nets (within_of names mods nets insts)) row.id (with_insts renames)) tops mods nets insts_set
   inst_set_whole = record {

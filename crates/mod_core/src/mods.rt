@@ -13,6 +13,7 @@ ghost use Rattle.undo_slots.specs.Slots.{Rows};
 ghost use Rattle.row_chains.specs.declared.link.Ends.{Ends};
 ghost use Rattle.mod_core.specs.declared.rows.ModRow.{ModRow};
 ghost use Rattle.mod_core.specs.declared.rows.NetRow.{NetRow};
+ghost use Rattle.mod_core.specs.declared.rows.InstFacts.{InstFacts};
 ghost use Rattle.mod_core.specs.inside.Linked.{module_of_row, net_of_row, port_of_row};
 ghost use Rattle.mod_core.specs.Mods.{name_at, is_used};
 
@@ -21,7 +22,7 @@ use crate::insts::{inst_in, inst_out};
 use crate::modules::{module_in, module_out};
 use crate::nets::{net_in, net_out};
 use crate::ports::{port_in, port_out};
-use crate::rows::{InstRow, ModRow, NetRow, TopRow};
+use crate::rows::{InstFacts, InstRow, ModRow, NetRow, TopRow};
 use emh_base::{Dir, InstId, ModId, Name, NetId, NoMemory, Pool, Range};
 use row_chains::{Ends, find_under};
 use std::alloc::Global;
@@ -226,6 +227,37 @@ impl Mods {
         Some(self.port_row(module, port)?.port?.dir)
     }
 
+    /// The id that the next instance in a module gets; none where the module isn't there.
+    pub fn next_inst(&self, id: ModId) -> Option<u32>
+        ensures { result ≡ option_map (λ m. m.next_inst) (module_of self.now.table.now id) }
+    {
+        Some(self.module_row(id)?.next_inst)
+    }
+
+    /// Whether an instance of a module is there.
+    pub fn is_inst(&self, module: ModId, inst: InstId) -> bool
+        ensures { result ≡ is_some (inst_in self.now.table.now «module» inst) }
+    {
+        self.inst_facts(module, inst).is_some()
+    }
+
+    /// The name of an instance; none where it isn't there.
+    pub fn inst_name(&self, module: ModId, inst: InstId) -> Option<&Name>
+        ensures { option_copied result
+            ≡ option_map (λ there. there.name) (inst_in self.now.table.now «module» inst) }
+    {
+        let facts = self.inst_facts(module, inst)?;
+        Some(self.at(facts.name))
+    }
+
+    /// The module that an instance is of; none where the instance isn't there.
+    pub fn inst_master(&self, module: ModId, inst: InstId) -> Option<ModId>
+        ensures { result
+            ≡ option_map (λ there. there.master) (inst_in self.now.table.now «module» inst) }
+    {
+        Some(self.inst_facts(module, inst)?.master)
+    }
+
     /// The row of a module.
     fn module_row(&self, id: ModId) -> Option<ModRow>
         ensures shown { (nets : Rows NetRow) × ((within : Ends → List PInst)
@@ -256,6 +288,26 @@ impl Mods {
         let owner = find_under(&Modules, &self.mods, &self.tops, self.top, module.0)?;
         let key = find_under(&Ports, &self.nets, &self.mods, owner, port.0)?;
         self.nets.get(key)
+    }
+
+    /// What is read of an instance.
+    fn inst_facts(&self, module: ModId, inst: InstId) -> Option<InstFacts>
+        ensures name { option_map (λ there. there.name) (inst_in self.now.table.now «module» inst)
+            ≡ option_map (λ facts. name_at self.now.names facts.name) result }
+        ensures master { option_map (λ there. there.master)
+            (inst_in self.now.table.now «module» inst)
+            ≡ option_map (λ facts. facts.master) result }
+        ensures named { (facts : InstFacts) → result ≡ Some facts
+            → facts.name < length self.now.names }
+    {
+        let owner = find_under(&Modules, &self.mods, &self.tops, self.top, module.0)?;
+        let key = find_under(&Insts, &self.insts, &self.mods, owner, inst.0)?;
+        let row = self.insts.get(key).unwrap();
+        let master = self.mods.get(row.user.owner).unwrap();
+        Some(InstFacts {
+            name: row.name,
+            master: master.id,
+        })
     }
 
     /// Opens a record. Condition: none is open, and there is a spare write.

@@ -53,6 +53,13 @@ pub struct InstRow {
     pub user: Link,
 }
 
+/// What is read of an instance: the number of its name, and its master.
+#[derive(Clone, Copy)]
+pub struct InstFacts {
+    pub name: usize,
+    pub master: ModId,
+}
+
 impl ModRow {
     /// Whether the module has no nets, no ports and no instances.
     pub(crate) fn is_bare(&self) -> bool
