@@ -4,8 +4,8 @@ use crate::records::{Record, Taken, goes_back_and_forth, plays};
 use emh_base::Dir::{Inout, Input, Output};
 use samples::asks::Ask;
 use samples::asks::Ask::{
-    CreateModule, CreateNet, CreatePort, DeleteModule, DeleteNet, DeletePort, Lock, RenameModule,
-    RenameNet, Unlock,
+    CreateInst, CreateModule, CreateNet, CreatePort, DeleteInst, DeleteModule, DeleteNet,
+    DeletePort, Lock, RenameInst, RenameModule, RenameNet, Unlock,
 };
 use std::test::Fail;
 
@@ -98,9 +98,40 @@ const COUNTED: &[Taken] = &[
     (Does(&[CreateModule("b")]), "1 b empty 0; 2", 5, 0),
 ];
 
+/// A master goes only where its instances have gone. Both come back with an abandoned record and by an undo.
+const INSTANCES: &[Taken] = &[
+    (
+        Does(&[CreateModule("m"), CreateModule("n"), CreateInst(1, "u", 0)]),
+        "0 m used empty 0; 1 n 0 [0 u of 0] 1; 2",
+        1,
+        0,
+    ),
+    (
+        Abandons(&[DeleteInst(1, 0), DeleteModule(0)], "1 n empty 0 1; 2"),
+        "0 m used empty 0; 1 n 0 [0 u of 0] 1; 2",
+        1,
+        0,
+    ),
+    (
+        Does(&[DeleteInst(1, 0), CreateInst(1, "u", 0)]),
+        "0 m used empty 0; 1 n 0 [1 u of 0] 2; 2",
+        2,
+        0,
+    ),
+    (Undo, "0 m used empty 0; 1 n 0 [0 u of 0] 1; 2", 1, 1),
+    (
+        Does(&[RenameInst(1, 0, "v")]),
+        "0 m used empty 0; 1 n 0 [0 v of 0] 1; 2",
+        2,
+        0,
+    ),
+    (Undo, "0 m used empty 0; 1 n 0 [0 u of 0] 1; 2", 1, 1),
+    (Redo, "0 m used empty 0; 1 n 0 [0 v of 0] 1; 2", 2, 0),
+];
+
 #[test]
 fn records_are_taken_in_order(rt: HostRuntime) -> Result<(), Fail> {
-    for steps in [IN_ONE_RECORD, ABANDONED, FORGOTTEN, COUNTED] {
+    for steps in [IN_ONE_RECORD, ABANDONED, FORGOTTEN, COUNTED, INSTANCES] {
         plays(&rt, rt.alloc(), steps)?;
     }
     Ok(())
@@ -135,9 +166,24 @@ const EACH: &[Record] = &[
         &[Unlock(1)],
         "0 INV empty 0; 1 half (0 top[3:0]) (1 b input) 2; 2",
     ),
-    (&[DeleteNet(1, 0)], "0 INV empty 0; 1 half (1 b input) 2; 2"),
-    (&[DeletePort(1, 1)], "0 INV empty 0; 1 half empty 2; 2"),
-    (&[DeleteModule(1)], "0 INV empty 0; 2"),
+    (
+        &[CreateInst(0, "u", 1)],
+        "0 INV 0 [0 u of 1] 1; 1 half used (0 top[3:0]) (1 b input) 2; 2",
+    ),
+    (
+        &[RenameInst(0, 0, "v")],
+        "0 INV 0 [0 v of 1] 1; 1 half used (0 top[3:0]) (1 b input) 2; 2",
+    ),
+    (
+        &[DeleteInst(0, 0)],
+        "0 INV empty 0 1; 1 half (0 top[3:0]) (1 b input) 2; 2",
+    ),
+    (
+        &[DeleteNet(1, 0)],
+        "0 INV empty 0 1; 1 half (1 b input) 2; 2",
+    ),
+    (&[DeletePort(1, 1)], "0 INV empty 0 1; 1 half empty 2; 2"),
+    (&[DeleteModule(1)], "0 INV empty 0 1; 2"),
     (&[DeleteModule(0)], "2"),
 ];
 
@@ -224,6 +270,99 @@ const MODULES: &[Record] = &[
     (&[DeleteModule(3)], "2 c empty 0; 4"),
 ];
 
+const THREE_INSTANCES: Record = (
+    &[
+        CreateModule("m"),
+        CreateModule("n"),
+        CreateInst(1, "a", 0),
+        CreateInst(1, "b", 0),
+        CreateInst(1, "c", 0),
+    ],
+    "0 m used empty 0; 1 n 0 [0 a of 0] [1 b of 0] [2 c of 0] 3; 2",
+);
+
+const FIRST_INSTANCE: &[Record] = &[
+    THREE_INSTANCES,
+    (
+        &[DeleteInst(1, 0)],
+        "0 m used empty 0; 1 n 0 [1 b of 0] [2 c of 0] 3; 2",
+    ),
+    (
+        &[CreateInst(1, "d", 0)],
+        "0 m used empty 0; 1 n 0 [1 b of 0] [2 c of 0] [3 d of 0] 4; 2",
+    ),
+];
+
+const MIDDLE_INSTANCE: &[Record] = &[
+    THREE_INSTANCES,
+    (
+        &[DeleteInst(1, 1)],
+        "0 m used empty 0; 1 n 0 [0 a of 0] [2 c of 0] 3; 2",
+    ),
+    (
+        &[DeleteInst(1, 2)],
+        "0 m used empty 0; 1 n 0 [0 a of 0] 3; 2",
+    ),
+    (&[DeleteInst(1, 0)], "0 m empty 0; 1 n empty 0 3; 2"),
+    (&[DeleteModule(0)], "1 n empty 0 3; 2"),
+];
+
+const LAST_INSTANCE: &[Record] = &[
+    THREE_INSTANCES,
+    (
+        &[DeleteInst(1, 2)],
+        "0 m used empty 0; 1 n 0 [0 a of 0] [1 b of 0] 3; 2",
+    ),
+    (
+        &[CreateInst(1, "d", 0)],
+        "0 m used empty 0; 1 n 0 [0 a of 0] [1 b of 0] [3 d of 0] 4; 2",
+    ),
+];
+
+/// Users of a master in two modules, one of which has a user too.
+const USERS: &[Record] = &[
+    (
+        &[
+            CreateModule("INV"),
+            CreateModule("half"),
+            CreateModule("top"),
+            CreateInst(1, "x", 0),
+            CreateInst(2, "y", 0),
+            CreateInst(2, "z", 1),
+        ],
+        "0 INV used empty 0; 1 half used 0 [0 x of 0] 1; 2 top 0 [0 y of 0] [1 z of 1] 2; 3",
+    ),
+    (
+        &[CreatePort(0, "A", Input, None), RenameModule(0, "NOT")],
+        "0 NOT used (0 A input) 1; 1 half used 0 [0 x of 0] 1; 2 top 0 [0 y of 0] [1 z of 1] 2; 3",
+    ),
+    (
+        &[DeleteInst(2, 0)],
+        "0 NOT used (0 A input) 1; 1 half used 0 [0 x of 0] 1; 2 top 0 [1 z of 1] 2; 3",
+    ),
+    (
+        &[DeleteInst(2, 1)],
+        "0 NOT used (0 A input) 1; 1 half 0 [0 x of 0] 1; 2 top empty 0 2; 3",
+    ),
+    (
+        &[DeleteInst(1, 0), DeletePort(0, 0), DeleteModule(0)],
+        "1 half empty 0 1; 2 top empty 0 2; 3",
+    ),
+];
+
+/// A kept table takes an instance of the module that holds it; the rules of edits don't.
+const OF_ITSELF: &[Record] = &[
+    (
+        &[CreateModule("m"), CreateInst(0, "s", 0)],
+        "0 m used 0 [0 s of 0] 1; 1",
+    ),
+    (
+        &[CreateInst(0, "t", 0), DeleteInst(0, 0)],
+        "0 m used 0 [1 t of 0] 2; 1",
+    ),
+    (&[DeleteInst(0, 1)], "0 m empty 0 2; 1"),
+];
+
 #[test]
 fn records_are_undone_and_redone(rt: HostRuntime) -> Result<(), Fail> {
     for records in [
@@ -235,6 +374,11 @@ fn records_are_undone_and_redone(rt: HostRuntime) -> Result<(), Fail> {
         MIDDLE_PORT,
         LAST_PORT,
         MODULES,
+        FIRST_INSTANCE,
+        MIDDLE_INSTANCE,
+        LAST_INSTANCE,
+        USERS,
+        OF_ITSELF,
     ] {
         goes_back_and_forth(&rt, rt.alloc(), records)?;
     }

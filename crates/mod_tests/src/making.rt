@@ -1,7 +1,7 @@
 //! Edits of a kept table, each by its method. What a method asks for is read first.
 ghost use Rattle.std.specs.Prelude.{◌≡◌, ◌<◌, ◌≤◌, length, true, OnOk, IfOk};
 
-use emh_base::{Dir, ModId, NetId, NoMemory};
+use emh_base::{Dir, InstId, ModId, NetId, NoMemory};
 use mod_core::Mods;
 use samples::asks::Ask;
 use samples::modules::{Ends, name_of, range_of};
@@ -48,7 +48,9 @@ fn make(rt: &impl Abort, alloc: Global, mods: &mut Mods, ask: Ask) -> Result<(),
         | Ask::RenameModule(_, text)
         | Ask::CreateNet(_, text, _)
         | Ask::RenameNet(_, _, text)
-        | Ask::CreatePort(_, text, _, _) => {
+        | Ask::CreatePort(_, text, _, _)
+        | Ask::CreateInst(_, text, _)
+        | Ask::RenameInst(_, _, text) => {
             let name = number_of(rt, alloc, mods, text)?;
             mods.reserve(1, 4)?;
             give_name(rt, mods, ask, name);
@@ -86,6 +88,13 @@ fn give_name(rt: &impl Abort, mods: &mut Mods, ask: Ask, name: usize)
         Ask::CreatePort(module, _, dir, ends) => {
             create_net(rt, mods, ModId(module), name, Some(dir), ends);
         }
+        Ask::RenameInst(module, inst, _) => {
+            assert!(rt; mods.is_inst(ModId(module), InstId(inst)));
+            mods.rename_inst(ModId(module), InstId(inst), name);
+        }
+        Ask::CreateInst(module, _, master) => {
+            create_inst(rt, mods, ModId(module), name, ModId(master));
+        }
         _ => panic!(rt; "no name is given"),
     }
 }
@@ -112,6 +121,21 @@ fn create_net(
         Some(dir) => mods.create_port(module, name, dir, range_of(ends)),
         None => mods.create_net(module, name, range_of(ends)),
     }
+}
+
+/// A new instance.
+fn create_inst(rt: &impl Abort, mods: &mut Mods, module: ModId, name: usize, master: ModId)
+    requires open { mods.old.table.is_open ≡ true }
+    requires room { 1 ≤ mods.old.table.spare_rows }
+    requires spare { 4 ≤ mods.old.table.spare_writes }
+    requires name { name < length mods.old.names }
+    ensures { mods.new.table.is_open ≡ true }
+{
+    let next = mods.next_inst(module);
+    assert!(rt; next.is_some());
+    assert!(rt; next != Some(u32::MAX));
+    assert!(rt; mods.is_module(master));
+    mods.create_inst(module, name, master);
 }
 
 /// An edit that gives no name.
@@ -142,6 +166,10 @@ fn change(rt: &impl Abort, mods: &mut Mods, ask: Ask)
         Ask::DeletePort(module, net) => {
             assert!(rt; mods.port_dir(ModId(module), NetId(net)).is_some());
             mods.delete_port(ModId(module), NetId(net));
+        }
+        Ask::DeleteInst(module, inst) => {
+            assert!(rt; mods.is_inst(ModId(module), InstId(inst)));
+            mods.delete_inst(ModId(module), InstId(inst));
         }
         _ => panic!(rt; "no edit of a kept table"),
     }

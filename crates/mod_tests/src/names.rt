@@ -1,6 +1,6 @@
 //! The numbers of names, and reads of what isn't there.
 use crate::making::number_of;
-use emh_base::{ModId, NetId};
+use emh_base::{InstId, ModId, NetId};
 use mod_core::Mods;
 use std::test::Fail;
 
@@ -46,6 +46,15 @@ fn nothing_is_read_of_what_is_not_there(rt: HostRuntime) -> Result<(), Fail> {
         (None, None)
     );
     assert_eq!(rt; mods.port_dir(module, NetId(0)), None);
+    assert_eq!(rt;
+        (mods.is_used(module), mods.is_inst(module, InstId(0))),
+        (false, false)
+    );
+    assert!(rt; mods.inst_name(module, InstId(0)).is_none());
+    assert_eq!(rt;
+        (mods.next_inst(module), mods.inst_master(module, InstId(0))),
+        (None, None)
+    );
     assert_eq!(rt;
         (mods.next_module(), mods.past_len(), mods.future_len()),
         (0, 0, 0)
