@@ -599,6 +599,7 @@ impl Mods {
         port_out(&mut self.mods, &mut self.nets, key, net, row);
         net_out(&mut self.mods, &mut self.nets, key);
     }
+
     /// Puts a new instance of a module last in a module, with each of its ports open. Its id is the module's counter. At
     /// most five writes. Condition: a record is open, there are spare rows and writes, the name is the pool's, both
     /// modules are there, and the counter has not come to its end.
